@@ -89,7 +89,7 @@ ENDS = {
     ("explain", 4): r"conflict( \d+)+\nminimal (yes|no)\nrefutation .*",
     ("prove", 0): rf"bound 0\n|bound [1-9]\d*\n{LOG}",
     ("prove", 1): r"teams .*\nfeasible no\n",
-    ("prove", 5): LOG,
+    ("prove", 5): rf"objective [1-9]\d*\nbound (0\n|[1-9]\d*\n{LOG}){LOG}",
     ("prove", 9): r"<\?xml .*</Solution>\n",
     ("bound", 0): r"accepted bound (0 steps 0|[1-9]\d* steps \d+)\n",
     ("bound", 1): REJECTED,

@@ -181,6 +181,22 @@ def resume_fault(instance, solution, k, limit, ran):
     return None if verdict.startswith("accepted") else verdict
 
 
+def floored_fault(instance, text, objective, limit):
+    """What is wrong with what `prove` writes where its budget is spent: the objective, a certificate of a floor, a log."""
+    line, _, rest = text.partition(b"\n")
+    if line != b"objective %d" % objective:
+        return f"not objective {objective}"
+    bound, _, log = rest.partition(b"\n")
+    floor = bound + b"\n"
+    if bound != b"bound 0":
+        proof, end, log = log.partition(b"\nend\n")
+        floor += proof + end
+    verdict = bounded(instance, floor)
+    if verdict[0] != 0 or int(bound.split()[-1]) > objective:
+        return f"{bound} {verdict}"
+    return spent_fault(log, *rows.with_bound(softened_of(instance), objective - 1), limit)
+
+
 def prove_fault(instance, solution, limit, ran):
     """What is wrong with what `prove` answered."""
     refusal = before_second(instance)
@@ -196,7 +212,7 @@ def prove_fault(instance, solution, limit, ran):
         fault, _, better = season_fault(league, ran.out)
         return fault or (None if better < objective else "not better")
     if ran.status == 5 and objective:
-        return spent_fault(ran.out, *rows.with_bound(softened_of(instance), objective - 1), limit)
+        return floored_fault(instance, ran.out, objective, limit)
     if ran.status != 0:
         return f"status {ran.status} at {objective}"
     head = b"bound %d\n" % objective
@@ -873,6 +889,14 @@ def weighed(t):
     measured(t, "prove of 10000 games", ["prove", late, season], 1, None, size)
 
 
+def roomed(t, words, size, told):
+    """`--room`: so many megabytes as the steps take change nothing, and one less ends with want of memory."""
+    least = -(-size // 10**6)
+    for megabytes, wanted in ((least, (1, told.encode())), (least - 1, (8, b""))):
+        ran = t.run(*words, "--room", str(megabytes), memory=6144)
+        t.must((ran.status, ran.out) == wanted, f"--room {megabytes} of {words}", ran)
+
+
 def sums(t):
     """Logs of long sums, each a copy of the one before: peak memory beside the file's size."""
     n, slots = 40, 78
@@ -894,6 +918,7 @@ def sums(t):
             told = f"rejected step {count} cause NoEmptyClause\n"
             name = f"{command} of {count} sums of 121680 terms"
             measured(t, name, [command, *words, path], 1, told, os.path.getsize(path), memory=6144)
+            roomed(t, [command, *words, path], count * (64 + 8 * 121_680), told)
     # Each hint looks at the whole row, which isn't in conflict.
     hints = 20_000
     line = b"c 0 " + b"%d " % (own + 1) * hints + b"0\n"

@@ -257,7 +257,13 @@ class Round:
             told = int(re.search(r'objective="(\d+)"', text)[1])
             self.must("better objective", now == told, now, told)
         if status == 5:
-            verdict = logs.check(*rows.with_bound(softened, objective - 1), logs.read_log(text))
+            first, bound, rest = text.split("\n", 2)
+            self.must("objective line", first == f"objective {objective}", first, objective)
+            if bound != "bound 0":
+                floor, rest = rest.split("\nend\n", 1)
+                verdict = logs.check(*rows.with_bound(softened, int(bound.split()[1]) - 1), logs.read_log(floor + "\nend\n"))
+                self.must("floor", verdict.startswith("accepted"), bound, verdict)
+            verdict = logs.check(*rows.with_bound(softened, objective - 1), logs.read_log(rest))
             self.must("prove as spent", objective and verdict.endswith("NoEmptyClause"), verdict)
         else:
             self.certificate(text, objective, softened)

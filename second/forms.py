@@ -512,6 +512,7 @@ def is_list(word):
 
 CONFLICTS = {"--conflicts": lambda word: word == "all" or is_number(word)}
 SECONDS = {"--seconds": is_number}
+ROOM = {"--room": is_number}
 SOLVE = {
     **CONFLICTS,
     "--moves": is_number,
@@ -535,15 +536,15 @@ def is_file(word):
 COMMANDS = {
     "validate": ([is_file, is_file], {}),
     "show": ([is_file, is_file], SHOW),
-    "check": ([is_file, is_file], {}),
+    "check": ([is_file, is_file], ROOM),
     "solve": ([is_file], {**SOLVE, **SECONDS, "--from": is_file}),
     "patterns": ([is_file], CONFLICTS),
     "explain": ([is_file], {**CONFLICTS, **SECONDS}),
     "part": ([is_file, is_list], {}),
     "prove": ([is_file, is_file], {**CONFLICTS, **SECONDS}),
-    "bound": ([is_file, is_file], {}),
+    "bound": ([is_file, is_file], ROOM),
     "resume": ([is_file, is_file, is_number], {**CONFLICTS, **SECONDS}),
-    "audit": ([is_file, is_file, is_number, is_file], {}),
+    "audit": ([is_file, is_file, is_number, is_file], ROOM),
     "rows": ([is_file], {"--bound": is_number}),
     "values": ([is_file, is_file], {}),
     "circle": ([is_team_count], {}),

@@ -12,11 +12,11 @@ _robin() {
         patterns) options="--conflicts --log --out --quiet" ;;
         explain) options="--conflicts --log --out --quiet --seconds" ;;
         part) options="--log --out --quiet" ;;
-        check) options="--log --out --quiet" ;;
+        check) options="--log --out --quiet --room" ;;
         prove) options="--conflicts --log --out --quiet --seconds" ;;
-        bound) options="--log --out --quiet" ;;
+        bound) options="--log --out --quiet --room" ;;
         resume) options="--conflicts --from --log --moves --near --out --patterns --quiet --seconds --seed --tries" ;;
-        audit) options="--log --out --quiet" ;;
+        audit) options="--log --out --quiet --room" ;;
         rows) options="--bound --log --objective --out --quiet" ;;
         values) options="--log --out --quiet" ;;
         circle) options="--log --out --quiet" ;;

@@ -11,13 +11,14 @@ use Rattle.answers.specs.declared.status.Status.TheVariants.{File, ReadFault, Re
 use Rattle.answers.specs.declared.refusal.Refusal.{Refusal}
 use Rattle.answers.specs.declared.reply.Reply.{Reply}
 use Rattle.answers.specs.declared.reply.NoValue.{NoValue}
-use Rattle.answers.specs.declared.reply.NoValue.TheVariants.{Refused, Memory}
+use Rattle.answers.specs.declared.reply.NoValue.TheVariants.{Refused, Memory, Room}
 
 -- answers of one kind are of another, where this follows for each
 pub Answers-wider : (narrow wide : Outcome) → ((answer : Answer) → narrow answer → wide answer) → (result : Result Reply NoValue) → Answers narrow result → Answers wide result
 Answers-wider narrow wide wider (Ok reply) given = wider _ given
 Answers-wider narrow wide wider (Err (Refused refusal)) given = wider _ given
 Answers-wider narrow wide wider (Err Memory) given = tt
+Answers-wider narrow wide wider (Err Room) given = tt
 
 -- what a file says is taken
 pub says-value : {A : Type 0} (which : List ℕ) (said : Result A Fault) (x : A) (next : A → Outcome) (answer : Answer) → said ≡ Ok x → next x answer → says which said next answer
@@ -47,6 +48,7 @@ module _ (before : ℕ) (whole rest : Store) (is_rest : IsRest before whole rest
       → Answers (IsUnread which (whole.contents name) limit (whole.took_more (before + limit)) (whole.failed name)) (Err end)
   unread-end (Refused refusal) given = unread-rest (answer_of refusal.reply) (given refusal refl)
   unread-end Memory given = tt
+  unread-end Room given = tt
 
   -- what is answered to a file by the rest of a run is what the whole answers
   pub takes-rest : (next : List ℕ → Outcome) (answer : Answer)

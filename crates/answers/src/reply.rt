@@ -22,6 +22,8 @@ pub struct Reply {
 pub enum NoValue {
     Refused(Refusal),
     Memory,
+    /// The steps of a log would take more memory than they were given.
+    Room,
 }
 
 impl From<AllocError> for NoValue {

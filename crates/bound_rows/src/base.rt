@@ -1,5 +1,5 @@
 //! Which constraints are paid for, and the variables beside their units.
-ghost use Rattle.std.specs.Prelude.{◌≡◌, ◌≤◌, ◌&&◌, not, nat_lt};
+ghost use Rattle.std.specs.Prelude.{◌≡◌, ◌^◌, ◌<◌, ◌≤◌, ◌&&◌, not, nat_lt};
 ghost use Rattle.std.specs.List.{list_any};
 ghost use Rattle.encoding_base.specs.Variables as variables;
 ghost use Rattle.bound_rows.specs.BoundRows as bound_rows;
@@ -9,9 +9,11 @@ use league::{Class, Constraint, League};
 
 /// Whether a constraint is soft and its deviation costs something.
 pub fn is_paid(constraint: &Constraint) -> bool
-    ensures { result ≡ (not constraint.now.hard && nat_lt 0 constraint.now.penalty) }
+    ensures paid { result ≡ (not constraint.now.hard && nat_lt 0 constraint.now.penalty) }
+    ensures small { constraint.now.penalty < 2 ^ 32 }
 {
-    !constraint.hard && constraint.penalty > 0
+    let penalty = constraint.penalty;
+    !constraint.hard && penalty > 0
 }
 
 /// Whether breaks have variables: a hard constraint bounds them, or one that is paid for.

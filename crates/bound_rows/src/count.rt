@@ -1,5 +1,5 @@
 //! How many terms the bound rows of a league have. They are counted by formulas, and no row is written.
-ghost use Rattle.std.specs.Prelude.{◌≡◌, ◌+◌, ◌*◌, ◌≤◌, [], ◌∷◌, length, IsTrue};
+ghost use Rattle.std.specs.Prelude.{◌≡◌, ◌+◌, ◌*◌, ◌^◌, ◌<◌, ◌≤◌, [], ◌∷◌, length, IsTrue};
 ghost use Rattle.std.specs.List.{All};
 ghost use Rattle.league.specs.Instance.{IsTeamCount, class_fits};
 ghost use Rattle.rows.specs.Rows.{size_of};
@@ -50,6 +50,7 @@ fn paid_terms(n: u16, constraints: &[Constraint]) -> u64
     requires few { length constraints.now ≤ 20000 }
     ensures terms { result ≡ sizes.paid_size n constraints.now }
     ensures most { result ≤ 600000000000000 * length constraints.now }
+    ensures small { All (λ c. c.penalty < 2 ^ 32) constraints.now }
 {
     let mut total = 0;
     for constraint in constraints {
@@ -64,6 +65,7 @@ fn terms_if_paid(n: u16, constraint: &Constraint) -> u64
     requires fits { IsTrue (class_fits n constraint.now.class) }
     ensures terms { result ≡ sizes.paid_size n (constraint.now ∷ []) }
     ensures most { result ≤ 600000000000000 }
+    ensures small { constraint.now.penalty < 2 ^ 32 }
 {
     if is_paid(constraint) {
         class_terms(n, &constraint.class)

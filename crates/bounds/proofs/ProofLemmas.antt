@@ -1,9 +1,8 @@
 -- What the answers say of a league and a schedule.
-use Rattle.std.proofs.Common.{◌≡◌, ◌⊎◌, ℕ, ◌+◌, ◌-◌, ◌*◌, ◌^◌, ◌<◌, ◌≤◌, Bool, false, max, List, []}
-use Rattle.std.proofs.Common.{get_or, length, take, Option, refl, sym, ap, subst, ◌∙◌, arith}
+use Rattle.std.proofs.Common.{◌≡◌, ◌⊎◌, ℕ, ◌-◌, ◌*◌, ◌^◌, ◌<◌, ◌≤◌, Bool, false, List, [], ◌∷◌}
+use Rattle.std.proofs.Common.{get_or, Option, refl, sym, ap, subst, ◌∙◌, arith, lit<}
 use Rattle.std.proofs.Math.Nat.{mul-le-mul}
-use Rattle.std.proofs.lemmas.List.Elements.{All-nil, All-weaker}
-use Rattle.std.proofs.lemmas.List.Sums.{fold_more}
+use Rattle.std.proofs.lemmas.List.Elements.{All-head, All-nil, All-tail, All-weaker}
 use Rattle.std.specs.List.{All}
 use Rattle.league.specs.Accepted.{IsAccepted, objective}
 use Rattle.league.specs.Bounds.{largest}
@@ -23,14 +22,16 @@ use Rattle.clause_search.specs.Answers.{IsAnswer, IsSpentAt, Refutes}
 use Rattle.clause_search.specs.declared.found.Found.{Found}
 use Rattle.clause_search.proofs.LineLemmas.{step_named}
 use Rattle.pattern_search.proofs.LogLemmas.{refuted-clauses}
-use Rattle.pattern_search.proofs.NewsLemmas.{news-clauses}
+use Rattle.clause_search.proofs.SearchLemmas.{news-clauses}
 use Rattle.descent.specs.Descended.{Descended}
 use Rattle.descent.specs.Settled.{IsSettled}
 use Rattle.descent.proofs.TrailLemmas.{trails-stay_feasible}
 use Rattle.solve.specs.Solutions.{IsSchedule, league_score}
 use Rattle.decoding.proofs.GameLemmas.{accepted_few, decoded_fit}
+use Rattle.decoding.proofs.ShortfallLemmas.{largest-cons}
 use Rattle.walk.proofs.WalkLemmas.{met}
 use Rattle.bound_rows.specs.BoundRows.{bound_rows, bound_size, bound_vars}
+use Rattle.bound_rows.specs.Bounded.{IsCounted}
 use Rattle.bound_rows.proofs.CostLaws.{costs-bounded}
 use Rattle.bound_rows.proofs.Faithful.{bounded-from_rows, bounds-from_refuted}
 use Rattle.bounds.specs.Lower.{IsLower}
@@ -46,27 +47,27 @@ games-le league = omega arith
 
 -- ---- objectives of 64 bits
 
-pub greatest-more : (constraints : List Constraint) (i before after : ℕ) (next : Constraint) → i < length constraints
-    → next ≡ get_or constraints i next → before ≡ largest (λ c. c.penalty) (take i constraints)
-    → after ≡ max before next.penalty → after ≡ largest (λ c. c.penalty) (take (i + 1) constraints)
-greatest-more constraints i before after next within is so_far larger =
-    larger ∙ ap (λ (b : ℕ). max b next.penalty) so_far
-    ∙ ap (λ (c : Constraint). max (largest (λ (c : Constraint). c.penalty) (take i constraints)) c.penalty) is
-    ∙ sym (fold_more (λ (a : ℕ) (c : Constraint). max a c.penalty) 0 constraints i next within)
-
--- the greatest penalty has 32 bits, and an accepted schedule pays it at most once for each term
-pub objective_small : (league : Instance) (m : Counts) (most : ℕ) → IsInstance league
-    → most ≡ largest (λ c. c.penalty) league.constraints → most < 2 ^ 32 → bound_size league ≤ 40000000
-    → IsAccepted league m → objective league m < 2 ^ 64
-objective_small league m most is greatest fits few accepted =
-    let small : most ≤ 4294967295 = omega (arith, fits) in
-    let paid : most * bound_size league ≤ 4294967295 * 40000000 = mul-le-mul small few in
+-- the largest of numbers of 32 bits has 32 bits
+largest-lt : {X : Type 0} (f : X → ℕ) (xs : List X) → All (λ x. f x < 2 ^ 32) xs → largest f xs < 2 ^ 32
+largest-lt f [] small = lit< tt
+largest-lt {X} f (x ∷ xs) small =
+    let Small : X → Type 0 = λ y. f y < 2 ^ 32 in
     omega (
       arith,
-      costs-bounded league m is accepted,
-      ap (λ (p : ℕ). p * bound_size league) greatest,
-      paid,
+      largest-cons f x xs,
+      All-head Small x xs small,
+      largest-lt f xs (All-tail Small x xs small),
     )
+
+-- each penalty has 32 bits, and an accepted schedule pays the greatest at most once for each term
+pub objective_small : (league : Instance) (m : Counts) (terms : ℕ) → IsCounted league terms → IsAccepted league m
+    → objective league m < 2 ^ 64
+objective_small league m terms counted accepted =
+    let most : ℕ = largest (λ (c : Constraint). c.penalty) league.constraints in
+    let fits : most < 2 ^ 32 = largest-lt (λ (c : Constraint). c.penalty) league.constraints counted.penalties in
+    let small : most ≤ 4294967295 = omega (arith, fits) in
+    let paid : most * bound_size league ≤ 4294967295 * 40000000 = mul-le-mul small counted.few in
+    omega (arith, costs-bounded league m counted.instance accepted, paid)
 
 -- ---- logs that can be written
 

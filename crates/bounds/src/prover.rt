@@ -4,7 +4,6 @@ ghost use Rattle.std.specs.Prelude.{◌≡◌, ◌⊎◌, ℕ, ◌-◌, ◌^◌,
 ghost use Rattle.std.specs.List.{All};
 ghost use Rattle.league.specs.Accepted.{IsAccepted};
 ghost use Rattle.league.specs.Accepted as costs;
-ghost use Rattle.league.specs.Bounds.{largest};
 ghost use Rattle.league.specs.Counts.{Counts, counts_of};
 ghost use Rattle.league.specs.Instance.{IsGame};
 ghost use Rattle.rows.specs.Rows.{SatisfiesAll};
@@ -21,7 +20,7 @@ use crate::proved::Proved;
 use bound_rows::bound_system;
 use clause_search::{Found, search_watched};
 use decoding::decode_games;
-use league::{Constraint, League, Schedule};
+use league::{League, Schedule};
 use refutation::Log;
 use robin_watch::{News, Watch};
 use rows::Assignment;
@@ -66,7 +65,6 @@ pub fn prove<W: Watch>(
         (IsKeptTo conflicts (W.may_stop watch.now)) (W.may_stop watch.now)) }
 {
     // An accepted schedule pays the greatest penalty at most once for each term, so that 64 bits hold its objective.
-    let _greatest = greatest_penalty(league.constraints());
     let objective = in_64_bits(counted.cost);
     if objective == 0 {
         return Ok(least_of_all(alloc));
@@ -85,17 +83,6 @@ fn in_64_bits(number: u128) -> u64
     ensures { result ≡ number }
 {
     number as u64
-}
-
-/// The greatest penalty, or 0 if there is no constraint.
-fn greatest_penalty(constraints: &[Constraint]) -> u32
-    ensures { result ≡ largest (λ c. c.penalty) constraints.now }
-{
-    let mut greatest = 0_u32;
-    for constraint in constraints {
-        greatest = greatest.max(constraint.penalty);
-    }
-    greatest
 }
 
 /// The answer if the objective is 0, which is the least there is.

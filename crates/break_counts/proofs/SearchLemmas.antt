@@ -15,7 +15,7 @@ use Rattle.refutation.specs.Steps.Step.{Clause}
 use Rattle.refutation.specs.Texts.{version_of}
 use Rattle.clause_search.specs.Answers.{Refutes}
 use Rattle.clause_search.proofs.LineLemmas.{step_named, step_short}
-use Rattle.pattern_search.proofs.NewsLemmas.{news-clauses}
+use Rattle.clause_search.proofs.SearchLemmas.{news-clauses}
 use Rattle.venue_counts.specs.CountLogs.{IsRefuting}
 use Rattle.break_counts.specs.BreakCounts.{are_few}
 use Rattle.break_counts.proofs.FewLaws.{few-none}

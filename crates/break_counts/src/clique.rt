@@ -32,7 +32,7 @@ struct Clique {
 ///
 /// # Errors
 /// Only where memory runs out.
-pub(crate) fn add_clique(
+pub fn add_clique(
     alloc: Global,
     writer: &mut Writer,
     frame: Frame,

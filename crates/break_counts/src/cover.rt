@@ -8,7 +8,7 @@ ghost use Rattle.break_counts.specs.BreakCounts.{later_slots};
 use crate::stretch::Stretch;
 
 /// Whether these slots hold each slot of the stretches at which a break counts.
-pub(crate) fn covers(slots: &[u16], stretches: &[Stretch]) -> bool
+pub fn covers(slots: &[u16], stretches: &[Stretch]) -> bool
     requires { All (λ t. t.first + t.count ≤ 78) stretches.now }
     ensures { result ≡ counts.covers slots.now stretches.now }
 {

@@ -6,17 +6,17 @@ use league::{League, slot_count};
 
 /// What the numbers of these rows depend on.
 #[derive(Clone, Copy)]
-pub(crate) struct Frame {
-    pub(crate) n: u16,
-    pub(crate) slots: u16,
-    pub(crate) phased: bool,
-    ghost teams: { n ≤ 40 },
-    ghost season: { slots ≡ counts.slot_count n },
+pub struct Frame {
+    pub n: u16,
+    pub slots: u16,
+    pub phased: bool,
+    pub ghost teams: { n ≤ 40 },
+    pub ghost season: { slots ≡ counts.slot_count n },
 }
 
 impl Frame {
     /// The frame of a league.
-    pub(crate) fn new(league: &League) -> Frame
+    pub fn new(league: &League) -> Frame
         ensures n { result.n ≡ league.now.n }
         ensures slots { result.slots ≡ counts.slot_count league.now.n }
     {
@@ -29,7 +29,7 @@ impl Frame {
     }
 
     /// The number of the row that says: two teams meet at this venue once or more.
-    pub(crate) fn meeting(self, home: u16, away: u16) -> u64
+    pub fn meeting(self, home: u16, away: u16) -> u64
         ensures { result < 2 ^ 40 }
     {
         let beside = if away < home {
@@ -41,7 +41,7 @@ impl Frame {
     }
 
     /// The number of the row that says: a team has no more than one game in a slot.
-    pub(crate) fn one_game(self, team: u16, slot: u16) -> u64
+    pub fn one_game(self, team: u16, slot: u16) -> u64
         ensures { result < 2 ^ 40 }
     {
         self.meetings() + 2 + 2 * place(team, self.slots, slot)
@@ -49,7 +49,7 @@ impl Frame {
 
     /// The number of the row that says, in a phased league: two teams meet in the first half once or more. The next row
     /// says: no more than once.
-    pub(crate) fn half(self, first: u16, second: u16) -> u64
+    pub fn half(self, first: u16, second: u16) -> u64
         ensures { result < 2 ^ 40 }
     {
         let later = (2 * self.n).saturating_sub(1);
@@ -60,7 +60,7 @@ impl Frame {
 
     /// The number of the row that says: if a team's venue in a slot is home, it has a home game there. The next row says:
     /// else it has none.
-    pub(crate) fn venue(self, team: u16, slot: u16) -> u64
+    pub fn venue(self, team: u16, slot: u16) -> u64
         ensures { result < 2 ^ 40 }
     {
         self.meetings() + self.cells() + self.halves() + 1 + 2 * place(team, self.slots, slot)
@@ -68,7 +68,7 @@ impl Frame {
 
     /// The number of the row that says: a team that is at home in a slot and in the slot before has a home break there.
     /// The third row after it says: a team that is away in both has an away break there.
-    pub(crate) fn home_break(self, team: u16, slot: u16) -> u64
+    pub fn home_break(self, team: u16, slot: u16) -> u64
         ensures { result < 2 ^ 40 }
     {
         let before = self.meetings() + self.cells() + self.halves() + self.cells();

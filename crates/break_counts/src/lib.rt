@@ -2,6 +2,8 @@
 //!
 //! In a half of a phased league, and in the season of any other, each two teams meet. So all teams but two have a break
 //! there (de Werra). Where hard constraints BR1 and BR2 allow the teams fewer, no schedule is accepted.
+//!
+//! `floors` counts the breaks of soft constraints by the same steps.
 #![tactic(auto)]
 
 mod allowed;
@@ -18,5 +20,11 @@ mod shortage;
 mod stretch;
 mod writer;
 
+pub use clique::add_clique;
 pub use counts::break_count;
+pub use cover::covers;
+pub use frame::Frame;
 pub use laws::few_breaks_allow_none;
+pub use lines::has_short_lines;
+pub use stretch::Stretch;
+pub use writer::Writer;

@@ -15,7 +15,7 @@ const MOST_ITEMS: usize = 100_000;
 const MOST_NUMBER: u64 = 1_000_000_000_000;
 
 /// Whether each step has at most 100,000 literals, hints and parts, and no number above 10^12.
-pub(crate) fn has_short_lines(log: &Log) -> bool
+pub fn has_short_lines(log: &Log) -> bool
     ensures { IsTrue result → HasShortLines log.now }
 {
     for k in 0..log.len() {

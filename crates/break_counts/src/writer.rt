@@ -8,14 +8,14 @@ use std::alloc::{AllocError, Global};
 
 /// The steps so far of a log over so many rows.
 #[derive(Drop)]
-pub(crate) struct Writer {
+pub struct Writer {
     rows: u64,
     log: Log,
 }
 
 impl Writer {
     /// No step yet.
-    pub(crate) fn new(alloc: Global, rows: u64) -> Writer {
+    pub fn new(alloc: Global, rows: u64) -> Writer {
         Writer {
             rows,
             log: Log::new(alloc),
@@ -26,7 +26,7 @@ impl Writer {
     ///
     /// # Errors
     /// Only where memory runs out.
-    pub(crate) fn clause(&mut self, clause: &[Lit], hints: &[u64]) -> Result<u64, AllocError> {
+    pub fn clause(&mut self, clause: &[Lit], hints: &[u64]) -> Result<u64, AllocError> {
         self.log.push(clause, hints)?;
         Ok(self.last())
     }
@@ -35,7 +35,7 @@ impl Writer {
     ///
     /// # Errors
     /// Only where memory runs out.
-    pub(crate) fn sum(&mut self, parts: &[Part], divisor: u64) -> Result<u64, AllocError>
+    pub fn sum(&mut self, parts: &[Part], divisor: u64) -> Result<u64, AllocError>
         requires factors { All (λ part. 1 ≤ part.factor) parts.now }
         requires divisor { 1 ≤ divisor }
     {
@@ -49,7 +49,7 @@ impl Writer {
     }
 
     /// The log.
-    pub(crate) fn finish(self) -> Log {
+    pub fn finish(self) -> Log {
         let Writer { rows: _, log } = self;
         log
     }

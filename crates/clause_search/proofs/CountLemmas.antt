@@ -1,16 +1,16 @@
 -- Logs of news have fewer steps than there are clauses: 3 to the number of variables.
 use Rattle.std.proofs.Common.{◌≡◌, ◌≢◌, ℕ, zero, suc, ◌+◌, ◌*◌, ◌^◌, ◌<◌, ◌≤◌, ◌==◌, ◌&&◌, ◌||◌, Bool, true, false}
 use Rattle.std.proofs.Common.{not, cond, eqb, List, [], ◌∷◌, ◌++◌, length, get_or, map}
-use Rattle.std.proofs.Common.{refl, inl, inr, arith, ap, sym, subst, ◌∙◌}
-use Rattle.std.specs.Prelude.{Contains, ◌⊎◌}
+use Rattle.std.proofs.Common.{refl, inl, inr, arith, ap, sym, subst, append_assoc, ◌∙◌}
+use Rattle.std.specs.Prelude.{Contains, ◌⊎◌, ⊤}
 use Rattle.std.specs.Bool.{beq}
 use Rattle.std.specs.List.{All, IsDistinct, filter, list_any}
 use Rattle.std.proofs.Math.Nat.{pow-suc}
 use Rattle.std.proofs.lemmas.Bool.{cases_Bool, cases_lt, false≢true, ne_eqb}
 use Rattle.std.proofs.lemmas.Bool.Decides.{nat_tests}
-use Rattle.std.proofs.lemmas.List.{length-map}
-use Rattle.std.proofs.lemmas.List.Elements.{All-cons, All-contains, All-head, All-map, All-nil, All-tail}
-use Rattle.std.proofs.lemmas.List.Elements.{Contains-append_left, Contains-push, recursion_from_All}
+use Rattle.std.proofs.lemmas.List.{append-nil, length-map}
+use Rattle.std.proofs.lemmas.List.Elements.{All-cons, All-contains, All-head, All-map, All-nil, All-push, All-tail}
+use Rattle.std.proofs.lemmas.List.Elements.{All-weaker, Contains-append_left, Contains-push, recursion_from_All}
 use Rattle.std.proofs.lemmas.List.Sums.{sum_by-cons}
 use Rattle.std.proofs.lemmas.Map.Keys.{IsDistinct-cons}
 use Rattle.std.proofs.lemmas.Map.Steps.{length-le_from_distinct_below}
@@ -25,7 +25,8 @@ use Rattle.rows.specs.Sums.{is_same}
 use Rattle.rows.proofs.LiteralLemmas.{same_literal}
 use Rattle.refutation.specs.Following.{clause_row, distinct, has, has_opposites}
 use Rattle.refutation.specs.Steps.{Step, clause_of}
-use Rattle.clause_search.specs.News.{AreNews, IsNews, IsTidy, row_of}
+use Rattle.clause_search.specs.Kept.{IsPart}
+use Rattle.clause_search.specs.News.{IsTidy, row_of}
 use Rattle.clause_search.proofs.ReplayLemmas.{Differ, differ_tail}
 
 -- ---- the same literal
@@ -310,10 +311,59 @@ code_some c vars l there from_one within = code_up c vars l.var (digit_some c l.
 
 -- ---- steps
 
+-- each step's clause is empowering over the rows and the steps before it
+abbrev pub AreEmpowering : List Row → List Step → Type 0
+AreEmpowering rows [] = ⊤
+AreEmpowering rows (step ∷ steps) =
+    IsEmpowering rows (clause_of step) × AreEmpowering (rows ++ row_of step ∷ []) steps
+
+-- a step more
+pub AreEmpowering-push : (rows : List Row) (steps : List Step) (s : Step) → AreEmpowering rows steps
+    → IsEmpowering (rows ++ map row_of steps) (clause_of s) → AreEmpowering rows (steps ++ s ∷ [])
+AreEmpowering-push rows [] s are is =
+    (subst (λ (rs : List Row). IsEmpowering rs (clause_of s)) (append-nil rows) is, tt)
+AreEmpowering-push rows (x ∷ steps) s are is = (
+  are.0,
+  AreEmpowering-push (rows ++ row_of x ∷ []) steps s are.1
+      (subst (λ (rs : List Row). IsEmpowering rs (clause_of s))
+      (sym (append_assoc rows (row_of x ∷ []) (map row_of steps))) is),
+)
+
+-- what is empowering is so over fewer rows
+pub IsEmpowering-fewer : (few rows : List Row) (c : List Literal) → All (Contains rows) few → IsEmpowering rows c
+    → IsEmpowering few c
+IsEmpowering-fewer few rows c held (values, l, quiet, among, free, others) = (
+  values,
+  l,
+  λ k d within. All-contains (IsQuietRow values) rows (get_or few k d) quiet (held k d within),
+  among,
+  free,
+  others,
+)
+
+held_more : (few rows : List Row) (row : Row) → All (Contains rows) few → All (Contains (rows ++ row ∷ [])) few
+held_more few rows row held =
+    All-weaker (Contains rows) (Contains (rows ++ row ∷ [])) (λ r is. Contains-append_left rows (row ∷ []) r is) few
+    held
+
+-- so is a part of the steps
+pub AreEmpowering-part : (less steps : List Step) (few rows : List Row) → All (Contains rows) few
+    → AreEmpowering rows steps → IsPart less steps → AreEmpowering few less
+AreEmpowering-part less [] few rows held are is = subst (λ (ss : List Step). AreEmpowering few ss) (sym is) tt
+AreEmpowering-part less (s ∷ steps) few rows held are (inl part) =
+    AreEmpowering-part less steps few (rows ++ row_of s ∷ []) (held_more few rows (row_of s) held) are.1 part
+AreEmpowering-part less (s ∷ steps) few rows held are (inr (rest, same, part)) =
+    subst (λ (ss : List Step). AreEmpowering few ss) (sym same) (
+      IsEmpowering-fewer few rows (clause_of s) held are.0,
+      AreEmpowering-part rest steps (few ++ row_of s ∷ []) (rows ++ row_of s ∷ [])
+          (All-push (Contains (rows ++ row_of s ∷ [])) few (row_of s) (held_more few rows (row_of s) held)
+          (Contains-push rows (row_of s))) are.1 part,
+    )
+
 -- a step's number comes at no later step
 not_again : (rows : List Row) (vars : ℕ) (s t : Step) → Contains rows (row_of s) → IsTidy vars s → IsTidy vars t
-    → IsNews rows vars t → code (clause_of s) vars ≢ code (clause_of t) vars
-not_again rows vars s t there s_tidy t_tidy news same = copied news.empowering
+    → IsEmpowering rows (clause_of t) → code (clause_of s) vars ≢ code (clause_of t) vars
+not_again rows vars s t there s_tidy t_tidy empowering same = copied empowering
   where
     copied : IsEmpowering rows (clause_of t) → ⊥
     copied (values, l, quiet, among, free, others) =
@@ -331,7 +381,7 @@ not_again rows vars s t there s_tidy t_tidy news same = copied news.empowering
         (All-contains (IsQuietRow values) rows (row_of s) quiet there))
 
 later_differ : (rows : List Row) (vars : ℕ) (s : Step) (ss : List Step) → Contains rows (row_of s) → IsTidy vars s
-    → AreNews rows vars ss → All (IsTidy vars) ss
+    → AreEmpowering rows ss → All (IsTidy vars) ss
     → All (λ t. eqb (code (clause_of s) vars) (code (clause_of t) vars) ≡ false) ss
 later_differ rows vars s [] there s_tidy news tidy =
     All-nil (λ t. eqb (code (clause_of s) vars) (code (clause_of t) vars) ≡ false)
@@ -345,7 +395,7 @@ later_differ rows vars s (t ∷ ss) there s_tidy news tidy =
 abbrev codes : ℕ → List Step → List ℕ
 codes vars steps = map (λ s. code (clause_of s) vars) steps
 
-codes_differ : (rows : List Row) (vars : ℕ) (ss : List Step) → AreNews rows vars ss → All (IsTidy vars) ss
+codes_differ : (rows : List Row) (vars : ℕ) (ss : List Step) → AreEmpowering rows ss → All (IsTidy vars) ss
     → IsDistinct eqb (codes vars ss)
 unfolding IsDistinct
 codes_differ rows vars [] news tidy = tt
@@ -358,8 +408,9 @@ codes_differ rows vars (s ∷ ss) news tidy =
     (codes_differ (rows ++ row_of s ∷ []) vars ss news.1 (All-tail (IsTidy vars) s ss tidy))
 
 -- none of them is 0
-above_none : (rows : List Row) (vars : ℕ) (s : Step) → IsTidy vars s → IsNews rows vars s → 1 ≤ code (clause_of s) vars
-above_none rows vars s tidy news = some news.empowering
+above_none : (rows : List Row) (vars : ℕ) (s : Step) → IsTidy vars s → IsEmpowering rows (clause_of s)
+    → 1 ≤ code (clause_of s) vars
+above_none rows vars s tidy empowering = some empowering
   where
     some : IsEmpowering rows (clause_of s) → 1 ≤ code (clause_of s) vars
     some (values, l, quiet, among, free, others) =
@@ -370,7 +421,7 @@ above_none rows vars s tidy news = some news.empowering
 not_zero : (n : ℕ) → 1 ≤ n → eqb 0 n ≡ false
 not_zero n some = ne_eqb 0 n (λ same. omega (arith, some, same))
 
-all_above : (rows : List Row) (vars : ℕ) (ss : List Step) → AreNews rows vars ss → All (IsTidy vars) ss
+all_above : (rows : List Row) (vars : ℕ) (ss : List Step) → AreEmpowering rows ss → All (IsTidy vars) ss
     → All (λ t. eqb 0 (code (clause_of t) vars) ≡ false) ss
 all_above rows vars [] news tidy = All-nil (λ t. eqb 0 (code (clause_of t) vars) ≡ false)
 all_above rows vars (s ∷ ss) news tidy =
@@ -389,8 +440,8 @@ any_below bound (x ∷ xs) below q is =
       | inr later ↦ any_below bound xs (All-tail (λ y. y < bound) x xs below) q later
     ]
 
--- A log of news, each step of it tidy, has fewer steps than 3 to the number of variables.
-pub fewer_steps : (rows : List Row) (vars : ℕ) (ss : List Step) → AreNews rows vars ss → All (IsTidy vars) ss
+-- Of steps that are empowering one by one, and tidy, there are fewer than 3 to the number of variables.
+pub fewer_steps : (rows : List Row) (vars : ℕ) (ss : List Step) → AreEmpowering rows ss → All (IsTidy vars) ss
     → length ss < 3 ^ vars
 fewer_steps rows vars ss news tidy =
     let numbers = map (λ (s : Step). code (clause_of s) vars) ss in

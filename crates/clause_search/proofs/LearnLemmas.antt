@@ -1,5 +1,5 @@
 -- What is learnt where a walk ends: a clause that follows, and is empowering.
-use Rattle.std.proofs.Common.{◌≡◌, ◌≢◌, ℕ, zero, suc, ◌+◌, ◌^◌, ◌<◌, ◌≤◌, List, [], ◌∷◌, ◌++◌, length}
+use Rattle.std.proofs.Common.{◌≡◌, ◌≢◌, ℕ, zero, suc, ◌+◌, ◌^◌, ◌<◌, ◌≤◌, List, [], ◌∷◌, ◌++◌, length, map}
 use Rattle.std.proofs.Common.{Ok}
 use Rattle.std.proofs.Common.{refl, inl, inr, arith, ap, sym, subst, ◌∙◌}
 use Rattle.std.specs.List.{All}
@@ -16,6 +16,7 @@ use Rattle.refutation.specs.Following.{clause_row, judged}
 use Rattle.propagate.proofs.LookLemmas.{news}
 use Rattle.clause_search.specs.Analysis.{IsAnalysis, clause_below, hint_of, hints_below, literal_of}
 use Rattle.clause_search.specs.Marks.{AreResolved, IsAnalyzed, IsBackLevel, IsLastDecision, IsTraced, IsWalked, role_at}
+use Rattle.clause_search.specs.Kept.{named}
 use Rattle.clause_search.specs.News.{IsNews, IsTidy}
 use Rattle.clause_search.specs.Trails.{before, lit_at, no_entry, reason_at}
 use Rattle.clause_search.specs.Turns.{Closes, IsLearnable, IsQuietRowUpTo}
@@ -107,31 +108,33 @@ none_kept lit role (suc k) none =
     ∙ append-nil (clause_below lit role k) ∙ none_kept lit role k (λ j below. none j (omega (arith, below)))
 
 -- the empty clause follows at level 0
-pub closes : (t : SeenTrail) (conflict : ℕ) (roles : List Role) (hints : List ℕ) (steps more : List Step)
-    → AreLawful t.rows t.vars t.entries
-    → length t.entries ≤ t.vars → IsTraced t conflict roles 0
+pub closes : (given : ℕ) (kept : List ℕ) (t : SeenTrail) (conflict : ℕ) (roles : List Role) (hints names : List ℕ)
+    (steps more : List Step) → AreLawful t.rows t.vars t.entries → length t.entries ≤ t.vars → IsTraced t conflict roles 0
     → hints ≡ hints_below (reason_at t.entries) (role_at roles) (length t.entries) ++ conflict ∷ []
-    → All (λ hint. hint < 2 ^ 64) hints → more ≡ steps ++ Clause [] hints ∷ [] → Closes t steps more
-closes t conflict roles hints steps more lawful few traced hints_are small more_is = record {
-  hints = hints;
-  log = more_is;
-  follows =
-      subst (λ (c : List Literal). judged t.rows t.vars (Clause c hints) ≡ Ok (clause_row c)) none
-      (subst (λ (hs : List ℕ).
-      judged t.rows t.vars (Clause (clause_below (lit_at t.entries) (role_at roles) (length t.entries)) hs)
-      ≡ Ok (clause_row (clause_below (lit_at t.entries) (role_at roles) (length t.entries)))) (sym hints_are)
-      (resolved_follows t conflict roles lawful traced.resolved));
-  tidy =
-      subst (λ (c : List Literal). IsTidy t.vars (Clause c hints)) none
-      (subst (λ (hs : List ℕ).
-      IsTidy t.vars (Clause (clause_below (lit_at t.entries) (role_at roles) (length t.entries)) hs))
-      (sym hints_are)
-      (resolved_tidy t conflict roles lawful few traced.resolved
-      (subst (λ (hs : List ℕ). All (λ hint. hint < 2 ^ 64) hs) hints_are small)));
-} where
-  none : clause_below (lit_at t.entries) (role_at roles) (length t.entries) ≡ []
-  none =
-      none_kept (lit_at t.entries) (role_at roles) (length t.entries) (λ j inside. traced.none j (omega arith) inside)
+    → All (λ hint. hint < 2 ^ 64) hints → names ≡ map (named given kept) hints → All (λ name. name < 2 ^ 64) names
+    → more ≡ steps ++ Clause [] names ∷ [] → Closes given kept t steps more
+closes given kept t conflict roles hints names steps more lawful few traced hints_are small names_are small_names
+    more_is = record {
+      hints = hints;
+      log = more_is ∙ ap (λ (ns : List ℕ). steps ++ Clause [] ns ∷ []) names_are;
+      follows =
+          subst (λ (c : List Literal). judged t.rows t.vars (Clause c hints) ≡ Ok (clause_row c)) none
+          (subst (λ (hs : List ℕ).
+          judged t.rows t.vars (Clause (clause_below (lit_at t.entries) (role_at roles) (length t.entries)) hs)
+          ≡ Ok (clause_row (clause_below (lit_at t.entries) (role_at roles) (length t.entries)))) (sym hints_are)
+          (resolved_follows t conflict roles lawful traced.resolved));
+      tidy =
+          subst (λ (c : List Literal). IsTidy t.vars (Clause c hints)) none
+          (subst (λ (hs : List ℕ).
+          IsTidy t.vars (Clause (clause_below (lit_at t.entries) (role_at roles) (length t.entries)) hs))
+          (sym hints_are)
+          (resolved_tidy t conflict roles lawful few traced.resolved
+          (subst (λ (hs : List ℕ). All (λ hint. hint < 2 ^ 64) hs) hints_are small)));
+      small = subst (λ (ns : List ℕ). All (λ name. name < 2 ^ 64) ns) names_are small_names;
+    } where
+      none : clause_below (lit_at t.entries) (role_at roles) (length t.entries) ≡ []
+      none =
+          none_kept (lit_at t.entries) (role_at roles) (length t.entries) (λ j inside. traced.none j (omega arith) inside)
 
 -- ---- above level 0
 
@@ -139,7 +142,7 @@ pub walked_news : (t : SeenTrail) (conflict start : ℕ) (roles : List Role) (cl
     → AreLawful t.rows t.vars t.entries → IsLastDecision t start → IsAnalyzed t conflict start roles
     → clause ≡ clause_below (lit_at t.entries) (role_at roles) (length t.entries)
     → hints ≡ hints_below (reason_at t.entries) (role_at roles) (length t.entries) ++ conflict ∷ []
-    → IsNews t.rows t.vars (Clause clause hints)
+    → IsNews t.rows t.rows t.vars (Clause clause hints)
 walked_news t conflict start roles clause hints lawful is analyzed clause_is hints_are = record {
   follows =
       subst (λ (c : List Literal). judged t.rows t.vars (Clause c hints) ≡ Ok (clause_row c)) (sym clause_is)

@@ -7,9 +7,12 @@
 -- one, which was free (`analysis_empowers`). The code goes down the trail by `false_stands`, `Marks-mark`,
 -- `walk_start`, `walk_pass` and `walk_use`, at level 0 by `trace_start`, `trace_pass` and `trace_use`. `walked_news`
 -- takes the step from that, and `closes` the empty clause. `walked_learnable` says that the levels to which the search
--- goes back stay quiet (`kept_calm`, `calm_below`). No clause is learnt twice (`no_copy`, `not_again`), so a log of
--- news has fewer steps than 3 to the number of variables (`fewer_steps`), and the search ends (`left_learnt`,
--- `left_decided`). `filled_satisfies`, `verdict_of-refuted` and `answer_spent` are for the three answers.
+-- goes back stay quiet (`kept_calm`, `calm_below`). On the trail the rows and the kept clauses have other numbers than in
+-- the log; a replay over the one is one over the other (`named-row`, `judged-named`). No kept clause is learnt again
+-- (`no_copy`, `not_again`), and what is empowering over more rows is so over fewer (`AreEmpowering-part`). So fewer
+-- steps than 3 to the number of variables are kept at any time (`fewer_steps`). After each forgetting more may be kept
+-- than before, and there is no forgetting where as many may be kept: so the search ends (`left_learnt`, `left_decided`,
+-- `left_forgot`). `filled_satisfies`, `verdict_of-refuted` and `answer_spent` are for the three answers.
 -- The difficulty: reasons aren't clauses. A row forces by its slack, so all its literals that were false at that place
 -- take part (`Resolves`), and in the replay other values stand. There what was false is false again, so the slack is no
 -- greater, and the row forces what it forced or is in conflict already (`reach-falls`, `reach-lost`,
@@ -26,6 +29,9 @@ pub mod EmpoweringLemmas
 pub mod MarkLemmas
 -- The walk of an analysis, place by place:
 pub mod WalkLemmas
+-- What is kept, and its numbers in the log:
+pub mod KeptLemmas
+pub mod NameLemmas
 -- What is learnt:
 pub mod TidyLemmas
 pub mod BackLemmas

@@ -16,6 +16,8 @@ use Rattle.refutation.specs.Verdict.{verdict_of}
 use Rattle.refutation.specs.declared.verdict.Cause.TheVariants.{NoConflict}
 use Rattle.refutation.specs.declared.verdict.Verdict.TheVariants.{Accepted}
 use Rattle.clause_search.specs.News.{IsNews, IsSpent}
+use Rattle.clause_search.proofs.SearchLemmas.{AreNews-none}
+use Rattle.clause_search.proofs.TurnLemmas.{All-front}
 
 abbrev six : List Row
 six =
@@ -69,7 +71,7 @@ alone other (zero, within, is) differs = absurd (differs (sym is))
 alone other (suc k, within, is) differs = absurd (omega (arith, within))
 
 -- the first step is news
-pub news-first : IsNews six 7 first
+pub news-first : IsNews six six 7 first
 news-first = record { follows = refl; empowering = (all_free, no 4, six_quiet, (0, lit< tt, refl), refl, alone) }
 
 -- the empty clause is news nowhere
@@ -79,8 +81,13 @@ empty_clause rows (values, l, quiet, (k, within, is), free, others) = omega (ari
 -- ---- spent logs
 
 pub spent-at_zero : IsSpent 0 six 7 []
-spent-at_zero = record { count = refl; news = tt; quiet = (all_free, six_quiet) }
+spent-at_zero = record { count = refl; news = AreNews-none six 7; quiet = (all_free, six_quiet) }
 
 -- what propagation alone refutes is spent at no number: here a row without terms
 pub unspent : (limit : ℕ) → IsSpent limit (at_least 1 [] ∷ []) 7 [] → ⊥
-unspent limit spent = omega (arith, (spent.quiet.1 0 (at_least 1 []) (lit< tt)).no_conflict)
+unspent limit spent =
+    omega (
+      arith,
+      (All-front (IsQuietRow spent.quiet.0) (at_least 1 [] ∷ []) _ spent.quiet.1 0 (at_least 1 [])
+          (lit< tt)).no_conflict,
+    )

@@ -1,6 +1,6 @@
 -- What a search answers that nothing may stop, and one of which it is known beforehand at which turn it ends.
-use Rattle.std.proofs.Common.{◌≡◌, ◌⊎◌, ◌<◌, ◌≤◌, ℕ, Bool, true, false, List, [], length, Option, Some, None, Result, Ok, Err}
-use Rattle.std.proofs.Common.{inl, inr, arith, ap, subst}
+use Rattle.std.proofs.Common.{◌≡◌, ◌⊎◌, ◌^◌, ◌<◌, ◌≤◌, ℕ, Bool, true, false, List, [], length, Option, Some, None, Result, Ok, Err}
+use Rattle.std.proofs.Common.{inl, inr, arith, ap, sym, subst}
 use Rattle.std.specs.Prelude.{IfOk, IfSome}
 use Rattle.rows.specs.Rows.{Row}
 use Rattle.rows.specs.Partials.{IsQuiet}
@@ -10,7 +10,7 @@ use Rattle.refutation.specs.Steps.{Step}
 use Rattle.robin_watch.specs.Limits.{EndsAt, lower_limit}
 use Rattle.robin_watch.proofs.LimitLemmas.{IsPassed, kept-unstopped, passed-more, reached-lower}
 use Rattle.clause_search.specs.Answers.{IsAnswer, IsAnswerBy, IsSpentAt}
-use Rattle.clause_search.specs.Turns.{Learns}
+use Rattle.clause_search.specs.Turns.{HasLearnt, IsDecided, IsLeft, Turned}
 use Rattle.clause_search.specs.declared.found.Found.{Found}
 use Rattle.clause_search.proofs.TurnLemmas.{IsUnder, answer_spent, learnt_length}
 
@@ -33,28 +33,42 @@ pub passed_start : (stops_at : ℕ → Option Bool) (steps : List Step) → step
 passed_start stops_at steps none = λ n below stops. absurd (omega (arith, ap length none, below))
 
 -- at a turn that learns a clause there was a conflict, and the watch went on
-pub passed_learnt : {A : Type 0} (stops_at : ℕ → Option Bool) (found : Option A) (kept : Option ℕ) (old new : SeenTrail)
-    (steps more : List Step) → Learns old new steps more → IfSome kept (λ most. length steps < most)
-    → (found ≡ None → more ≡ steps)
-    → (stops_at (length steps) ≡ Some true → (found ≡ None) ⊎ (kept ≡ Some (length steps)))
-    → IsPassed stops_at (length steps) → IsPassed stops_at (length more)
-passed_learnt {A} stops_at found kept old new steps more learns room same ended passed =
-    passed-more stops_at (length steps) (length more) (learnt_length old new steps more learns) passed
+pub passed_learnt : {A : Type 0} (stops_at : ℕ → Option Bool) (found : Option A) (limit : Option ℕ) (t : Turned)
+    (old new : SeenTrail) → HasLearnt t old new limit → (found ≡ None → t.more ≡ t.steps)
+    → (stops_at (length t.steps) ≡ Some true → (found ≡ None) ⊎ (limit ≡ Some (length t.steps)))
+    → IsPassed stops_at (length t.steps) → IsPassed stops_at (length t.more)
+passed_learnt {A} stops_at found limit t old new learnt same ended passed =
+    passed-more stops_at (length t.steps) (length t.more) (learnt_length t old new limit learnt) passed
     (λ stops. elim (ended stops) [
-      | inl none ↦ omega (arith, learnt_length old new steps more learns, ap length (same none))
-      | inr reached ↦ let over : length steps < length steps
-          = subst (λ (k : Option ℕ). IfSome k (λ most. length steps < most)) reached room in omega (arith, over)
+      | inl none ↦ omega (arith, learnt_length t old new limit learnt, ap length (same none))
+      | inr reached ↦ let over : length t.steps < length t.steps
+          = subst (λ (k : Option ℕ). IfSome k (λ most. length t.steps < most)) reached learnt.within in
+          omega (arith, over)
     ])
 
-pub answer_planned : (stops_at : ℕ → Option Bool) (rows : List Row) (vars : ℕ) (limit first kept : Option ℕ)
-    (steps more : List Step) (t : SeenTrail) → IsUnder rows vars steps t → EndsAt stops_at first
+pub passed_turned : {A : Type 0} (stops_at : ℕ → Option Bool) (found : Option A) (limit : Option ℕ) (t : Turned)
+    (old new : SeenTrail) → (IsLeft t × IsDecided old new) ⊎ HasLearnt t old new limit
+    → (found ≡ None → t.more ≡ t.steps)
+    → (stops_at (length t.steps) ≡ Some true → (found ≡ None) ⊎ (limit ≡ Some (length t.steps)))
+    → IsPassed stops_at (length t.steps) → IsPassed stops_at (length t.more)
+passed_turned {A} stops_at found limit t old new (inl (still, decided)) same ended passed =
+    subst (λ (steps : List Step). IsPassed stops_at (length steps)) (sym still.log) passed
+passed_turned {A} stops_at found limit t old new (inr learnt) same ended passed =
+    passed_learnt stops_at found limit t old new learnt same ended passed
+
+pub answer_planned : (stops_at : ℕ → Option Bool) (rows : List Row) (vars given : ℕ) (places : List ℕ)
+    (limit first kept : Option ℕ) (steps more : List Step) (t : SeenTrail) → IsUnder rows vars given steps places t
+    → EndsAt stops_at first
     → IsPassed stops_at (length steps) → IfSome limit (λ most. length steps ≤ most)
     → (stops_at (length steps) ≡ Some false → kept ≡ limit)
-    → (more ≡ steps) × (kept ≡ Some (length steps)) × ((values : ℕ → Value) × IsQuiet values t.rows)
+    → (more ≡ steps) × (kept ≡ Some (length steps)) × (length steps < 2 ^ 64)
+    × ((values : ℕ → Value) × IsQuiet values t.rows)
     → IsSpentAt rows vars (lower_limit limit first) more
-answer_planned stops_at rows vars limit first kept steps more t under ends passed within same is =
-    answer_spent rows vars (lower_limit limit first) steps more t under (
-      is.0,
-      reached-lower stops_at limit first kept (length steps) ends passed within is.1 same,
-      is.2,
+answer_planned stops_at rows vars given places limit first kept steps more t under ends passed within same
+    (still, reached, small, quiet) =
+    answer_spent rows vars given places (lower_limit limit first) steps more t under (
+      still,
+      reached-lower stops_at limit first kept (length steps) ends passed within reached same,
+      small,
+      quiet,
     )

@@ -1,6 +1,8 @@
 -- What a reader of a claim must believe:
 --
--- Read in this order. When a log says more than propagation finds, and what a search answers:
+-- Read in this order. Which steps of a log are kept, when a log says more than propagation finds, and what a search
+-- answers:
+pub mod Kept
 pub mod News
 pub mod Answers
 -- Kept inside (laws, and how fields are seen):

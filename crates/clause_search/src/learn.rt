@@ -9,7 +9,7 @@ ghost use Rattle.clause_search.specs.Turns.{Closes, IsLearnable, Learns};
 
 use crate::analyze::{analyze, trace};
 use crate::desk::Desk;
-use crate::levels::{back_level, release_above};
+use crate::levels::{back_level, count_levels, release_above};
 use crate::order::Order;
 use crate::role::Role;
 use propagate::{Conflict, Trail};
@@ -34,14 +34,18 @@ pub(crate) fn learn(
     requires start { IsLastDecision trail.old start }
     requires below { IsQuietBelow trail.old.rows trail.old.entries }
     requires vars { desk.old.order.vars ≡ trail.old.vars }
-    ensures learns { OnOk result (Learns trail.old trail.new log.old log.new) }
+    ensures learns { OnOk result (Learns desk.old.given desk.old.kept.places.items trail.old trail.new log.old log.new) }
+    ensures kept { OnOk result (desk.new.kept.places.items ≡ desk.old.kept.places.items ++ length log.old ∷ []) }
+    ensures room { OnOk result (desk.new.kept.room ≡ desk.old.kept.room) }
+    ensures given { desk.new.given ≡ desk.old.given }
     ensures vars { desk.new.order.vars ≡ desk.old.order.vars }
 {
     let _len = trail.len();
     let back = explain(trail, desk, conflict, start)?;
+    desk.kept.need(&desk.hints, desk.given, log.len() as u64);
     let level = desk.restarts.level(back);
     release_above(trail, level, &mut desk.order);
-    keep(trail, log, &desk.clause, &desk.hints, level)
+    keep(trail, log, desk, level)
 }
 
 /// Works out the clause of a conflict above level 0, and its hints. The answer is the level to go back to.
@@ -58,6 +62,9 @@ fn explain(
     requires start { IsLastDecision trail.now start }
     requires vars { desk.old.order.vars ≡ trail.now.vars }
     ensures learnable { IfOk result (IsLearnable trail.now desk.new.clause.items desk.new.hints.items) }
+    ensures given { desk.new.given ≡ desk.old.given }
+    ensures kept { desk.new.kept.places.items ≡ desk.old.kept.places.items }
+    ensures room { desk.new.kept.room ≡ desk.old.kept.room }
     ensures vars { desk.new.order.vars ≡ desk.old.order.vars }
 {
     let _len = trail.len();
@@ -70,6 +77,7 @@ fn explain(
         &mut desk.hints,
     )?;
     raise_all(trail, &desk.roles, &mut desk.order);
+    desk.levels = count_levels(trail, &desk.roles);
     Ok(back_level(trail, &desk.roles, start))
 }
 
@@ -88,22 +96,23 @@ pub(crate) fn raise_all(trail: &Trail, roles: &[Role], order: &mut Order)
     order.age();
 }
 
-/// A clause comes behind the rows and into the log, and the trail goes back to a level.
-fn keep(
-    trail: &mut Trail,
-    log: &mut Log,
-    clause: &[Lit],
-    hints: &[u64],
-    level: u32,
-) -> Result<(), AllocError>
-    requires learnable { IsLearnable trail.old clause.now hints.now level }
+/// The desk's clause comes behind the rows, and with the log's numbers into the log, and the trail goes back to a level.
+fn keep(trail: &mut Trail, log: &mut Log, desk: &mut Desk, level: u32) -> Result<(), AllocError>
+    requires learnable { IsLearnable trail.old desk.old.clause.items desk.old.hints.items level }
     requires below { IsQuietBelow trail.old.rows trail.old.entries }
-    ensures { OnOk result (Learns trail.old trail.new log.old log.new) }
+    ensures learns { OnOk result (Learns desk.old.given desk.old.kept.places.items trail.old trail.new log.old log.new) }
+    ensures kept { OnOk result (desk.new.kept.places.items ≡ desk.old.kept.places.items ++ length log.old ∷ []) }
+    ensures room { OnOk result (desk.new.kept.room ≡ desk.old.kept.room) }
+    ensures given { desk.new.given ≡ desk.old.given }
+    ensures vars { desk.new.order.vars ≡ desk.old.order.vars }
 {
     let _len = trail.len();
     trail.back_to(level);
-    let _number = trail.add(clause)?;
-    log.push(clause, hints)?;
+    let _number = trail.add(&desk.clause)?;
+    desk.name_hints()?;
+    let place = log.len();
+    log.push(&desk.clause, &desk.names)?;
+    desk.kept.push(place, desk.levels)?;
     Ok(())
 }
 
@@ -119,7 +128,8 @@ pub(crate) fn refute(
 ) -> Result<(), AllocError>
     requires conflict { NamesConflict trail.now.rows (values_of trail.now.entries) conflict }
     requires forced { (j : ℕ) → j < length trail.now.entries → is_decision (entry_at trail.now.entries j) ≡ false }
-    ensures closes { OnOk result (Closes trail.now log.old log.new) }
+    ensures closes { OnOk result (Closes desk.old.given desk.old.kept.places.items trail.now log.old log.new) }
+    ensures given { desk.new.given ≡ desk.old.given }
     ensures vars { desk.new.order.vars ≡ desk.old.order.vars }
 {
     let _len = trail.len();
@@ -131,7 +141,8 @@ pub(crate) fn refute(
         &mut desk.clause,
         &mut desk.hints,
     )?;
-    log.push(&[], &desk.hints)?;
+    desk.name_hints()?;
+    log.push(&[], &desk.names)?;
     Ok(())
 }
 

@@ -58,3 +58,30 @@ pub(crate) fn release_above(trail: &Trail, level: u32, order: &mut Order)
         order.release(entry.lit);
     }
 }
+
+/// From how many levels the literals of the learnt clause come. It only guides which clauses are forgotten: no clause
+/// says what it answers.
+pub(crate) fn count_levels(trail: &Trail, roles: &[Role]) -> u32
+    requires roles { length roles.now ≡ length trail.now.entries }
+{
+    let mut count: u32 = 0;
+    let mut level = 0;
+    for k in 0..trail.len() {
+        let entry = trail.entry(k);
+        if is_kept(roles[k]) && (count == 0 || entry.level != level) {
+            count = count.saturating_add(1);
+            level = entry.level;
+        }
+    }
+    count
+}
+
+/// Puts the variables of all levels back among those that wait for a decision, and keeps their signs.
+pub(crate) fn release_all(trail: &Trail, order: &mut Order)
+    requires { order.old.vars ≡ trail.now.vars }
+    ensures { order.new.vars ≡ order.old.vars }
+{
+    for k in 0..trail.len() {
+        order.release(trail.entry(k).lit);
+    }
+}

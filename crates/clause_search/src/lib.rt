@@ -4,10 +4,13 @@
 
 mod analyze;
 mod desk;
+mod forget;
 mod found;
+mod kept;
 mod learn;
 mod levels;
 mod mark;
+mod names;
 mod order;
 mod pick;
 mod restarts;

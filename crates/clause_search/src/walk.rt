@@ -1,14 +1,14 @@
 //! The search.
-ghost use Rattle.std.specs.Prelude.{◌≡◌, ◌⊎◌, ℕ, ◌<◌, ◌≤◌, List, length, Option, Some, None, true, false, IfOk, IfSome};
+ghost use Rattle.std.specs.Prelude.{◌≡◌, ◌⊎◌, ℕ, ◌^◌, ◌<◌, ◌≤◌, length, Option, Some, None, true, false, IfOk, IfSome};
 ghost use Rattle.std.specs.List.{All};
 ghost use Rattle.rows.specs.Partials.{IsQuiet};
 ghost use Rattle.propagate.specs.Trails.{IsQuietBelow, IsSettled, KnowsVariables, NamesConflict, values_of};
-ghost use Rattle.refutation.specs.Steps.{Step};
 ghost use Rattle.robin_watch.specs.Limits.{EndsAt, IsKeptTo, lower_limit};
 ghost use Rattle.clause_search.specs.Answers.{IsAnswer, IsAnswerBy};
-ghost use Rattle.clause_search.specs.Turns.{IsTurn};
+ghost use Rattle.clause_search.specs.Turns.{IsLeft, IsTurn, Turned};
 
 use crate::desk::Desk;
+use crate::forget::lighten;
 use crate::found::Found;
 use crate::learn::{learn, refute};
 use crate::levels::last_decision;
@@ -48,6 +48,9 @@ pub fn search(
 /// at most so many clauses. The watch is asked at each conflict, and where it ends the search, the clauses that are
 /// learnt by then are the limit.
 ///
+/// The log has all clauses that are learnt. The trail keeps the more useful ones of them, more and more as the search
+/// goes on.
+///
 /// The search decides the most active free variable, with the sign that it had last: at first the preferred literals,
 /// in their order, then all other variables, to be false. From each conflict above level 0 it learns the clause of the
 /// first unique implication point, and goes back to where this clause forces a literal, or at times to level 0. A
@@ -75,13 +78,14 @@ pub fn search_watched<W: Watch>(
 {
     let mut trail = Trail::new(alloc, rows, vars)?;
     let mut log = Log::new(alloc);
-    let mut desk = Desk::new(alloc, vars, prefer)?;
+    let given = rows.len();
+    let mut desk = Desk::new(alloc, given as u64, vars, prefer)?;
     'turns: loop {
         let found = trail.run();
         let kept = limit_here(&found, limit, log.len() as u64, watch);
         let turn = take_turn(alloc, &mut trail, &mut log, &mut desk, found, kept)?;
         match turn {
-            Turn::Again => {}
+            Turn::Again => lighten(alloc, rows, &mut trail, &log, &mut desk)?,
             Turn::Satisfied(values) => return Ok(Found::Sat(values)),
             Turn::Refuted => return Ok(Found::Refuted(log)),
             Turn::Spent => return Ok(Found::Spent(log)),
@@ -126,7 +130,16 @@ fn take_turn(
     requires found { IsSettled trail.old.rows (values_of trail.old.entries) found }
     requires below { IsQuietBelow trail.old.rows trail.old.entries }
     requires within { IfSome limit (λ most. length log.old ≤ most) }
-    ensures turn { IfOk result (IsTurn trail.old trail.new log.old log.new limit) }
+    ensures turn { IfOk result (IsTurn (record {
+      given = desk.old.given;
+      steps = log.old;
+      more = log.new;
+      kept = desk.old.kept.places.items;
+      now = desk.new.kept.places.items;
+      room = desk.old.kept.room;
+      room_now = desk.new.kept.room;
+    }) trail.old trail.new limit) }
+    ensures given { desk.new.given ≡ desk.old.given }
     ensures vars { desk.new.order.vars ≡ desk.old.order.vars }
     ensures nothing_learnt { found ≡ None → log.new ≡ log.old }
 {
@@ -148,7 +161,16 @@ fn meet(
     requires conflict { NamesConflict trail.old.rows (values_of trail.old.entries) conflict }
     requires below { IsQuietBelow trail.old.rows trail.old.entries }
     requires within { IfSome limit (λ most. length log.old ≤ most) }
-    ensures turn { IfOk result (IsTurn trail.old trail.new log.old log.new limit) }
+    ensures turn { IfOk result (IsTurn (record {
+      given = desk.old.given;
+      steps = log.old;
+      more = log.new;
+      kept = desk.old.kept.places.items;
+      now = desk.new.kept.places.items;
+      room = desk.old.kept.room;
+      room_now = desk.new.kept.room;
+    }) trail.old trail.new limit) }
+    ensures given { desk.new.given ≡ desk.old.given }
     ensures vars { desk.new.order.vars ≡ desk.old.order.vars }
 {
     match last_decision(trail) {
@@ -171,6 +193,7 @@ fn is_reached(limit: Option<u64>, steps: usize) -> bool
     requires { IfSome limit (λ most. steps ≤ most) }
     ensures reached { result ≡ true → limit ≡ Some steps }
     ensures early { result ≡ false → IfSome limit (λ most. steps < most) }
+    ensures small { steps < 2 ^ 64 }
 {
     match limit {
         Some(most) => steps as u64 == most,
@@ -183,8 +206,8 @@ fn go_on(alloc: Global, trail: &mut Trail, order: &mut Order) -> Result<Turn, Al
     requires vars { order.old.vars ≡ trail.old.vars }
     requires quiet { IsQuiet (values_of trail.old.entries) trail.old.rows }
     requires below { IsQuietBelow trail.old.rows trail.old.entries }
-    ensures turn { (steps : List Step) (limit : Option ℕ)
-        → IfOk result (IsTurn trail.old trail.new steps steps limit) }
+    ensures turn { (turned : Turned) (limit : Option ℕ) → IsLeft turned
+        → IfOk result (IsTurn turned trail.old trail.new limit) }
     ensures vars { order.new.vars ≡ order.old.vars }
 {
     let _len = trail.len();

@@ -126,7 +126,7 @@ consumes-none None left keeps = tt
 consumes-none (Some file) None keeps = absurd keeps
 consumes-none (Some file) (Some rest) keeps = sym keeps
 
-consumes-then : (known between left : Option (List ℕ)) (front piece : List ℕ) → Consumes known between front → Consumes between left piece → Consumes known left (front ++ piece)
+pub consumes-then : (known between left : Option (List ℕ)) (front piece : List ℕ) → Consumes known between front → Consumes between left piece → Consumes known left (front ++ piece)
 consumes-then None between left front piece first second = tt
 consumes-then (Some file) None left front piece first second = absurd first
 consumes-then (Some file) (Some rest) None front piece first second = absurd second

@@ -8,7 +8,16 @@ use Rattle.refutation.specs.Steps.{Step}
 use Rattle.refutation.specs.Logs.{after}
 use Rattle.refutation.specs.Places.{Place, log_from}
 use Rattle.refutation_check.specs.Judged.{Judged, after_step}
+use Rattle.refutation_check.specs.declared.fault.StepsFault.{StepsFault}
+use Rattle.refutation_check.specs.declared.fault.StepsFault.TheVariants as wants
 use Rattle.command_check.specs.Check.{most_log_bytes}
+use Rattle.command_check.specs.declared.feeding.FeedFault.{FeedFault}
+use Rattle.command_check.specs.declared.feeding.FeedFault.TheVariants.{Full, Mem}
+
+-- why a file isn't judged to its end, where its steps aren't all judged
+abbrev pub feed_fault : StepsFault → FeedFault
+feed_fault wants.Full = Full
+feed_fault wants.Mem = Mem
 
 -- These bytes were read from one place on, and the steps that they say were judged. So many steps they were, and
 -- whatever comes behind the bytes, the text is read as these steps and then as what is read from here.

@@ -4,3 +4,5 @@ pub mod Check
 --
 -- A log that is checked while it is read:
 pub mod Feeding
+-- A log whose steps take more than they may:
+pub mod Stopping

@@ -1,20 +1,22 @@
 //! The stages of `check`.
-ghost use Rattle.std.specs.Prelude.{◌≡◌, ◌+◌, ◌<◌, ◌≤◌, ℕ, List, IfOk, codes, vec_len};
+ghost use Rattle.std.specs.Prelude.{◌≡◌, ◌+◌, ◌<◌, ◌≤◌, ℕ, List, true, false, IfOk, IsErrOf, OnOk, codes, vec_len};
 ghost use Rattle.robin_io.specs.Outside.{store_between};
 ghost use Rattle.rows.specs.Rows.{Row};
 ghost use Rattle.encoding.specs.Encoding.{encoding_size, rows_of};
 ghost use Rattle.refutation.specs.Logs.{log_of};
 ghost use Rattle.refutation.specs.Places.{start};
 ghost use Rattle.refutation_check.specs.Judged.{no_step_of};
+ghost use Rattle.refutation_check.specs.Room.{has_room};
 ghost use Rattle.answers.specs.Reply.{too_large};
 ghost use Rattle.answers.specs.SeenReply.{Answers, MatchStage};
 ghost use Rattle.answers.specs.Stages.{IsUnread, reads};
 ghost use Rattle.command_check.specs.Check.{IsVerdict, IsVerdictOver, checked, most_log_bytes};
 ghost use Rattle.command_check.specs.Check.{says_log};
 ghost use Rattle.command_check.specs.Feeding.{ChecksFile, ChecksOn};
+ghost use Rattle.command_check.specs.Stopping.{PassesLimit};
 ghost use Rattle.encoding.specs.Limit.{most_terms};
 
-use crate::feeding::{LOG_LIMIT, check_file};
+use crate::feeding::{FeedFault, LOG_LIMIT, check_file};
 use crate::replies::verdict_reply;
 use answers::{NoValue, Reply, file, league_in, log_refused, past_limit, rows_refused, unreadable};
 use decoding::checker_of;
@@ -22,7 +24,7 @@ use encoding::{EncodeFault, Encoding, encode};
 use league::League;
 use refutation::{LogFault, LogFeed};
 use refutation_check::Checker;
-use robin_io::{Shelf, TakeFault};
+use robin_io::Shelf;
 use robinx_read::INSTANCE_LIMIT;
 use std::alloc::{AllocError, Global};
 
@@ -56,28 +58,33 @@ fn log_in<S: Shelf>(
     name: &str,
     feed: &mut LogFeed,
     checker: &mut Checker,
+    limit: Option<u128>,
 ) -> Result<usize, NoValue>
     requires { feed.old ≡ start }
     ensures stage { let store = store_between S.Shelf shelf.old shelf.new in MatchStage result
         (ChecksFile (store.contents name.now) feed.old checker.old feed.new checker.new)
         (IsUnread (codes "log") (store.contents name.now) most_log_bytes (store.took_more most_log_bytes)
         (store.failed name.now)) }
+    ensures within { OnOk result (has_room limit checker.old ≡ true → has_room limit checker.new ≡ true) }
+    ensures full { IsErrOf result NoValue.Room →
+        PassesLimit (S.contents shelf.old name.now) limit feed.old checker.old checker.new }
     ensures taken { S.taken shelf.new ≤ S.taken shelf.old + (most_log_bytes + 1) }
     ensures contents { (n : List ℕ) → S.contents shelf.new n ≡ S.contents shelf.old n }
 {
     let mut room = room_of(alloc, PIECE)?;
-    match check_file(alloc, shelf, name, &mut room, feed, checker) {
+    match check_file(alloc, shelf, name, &mut room, feed, checker, limit) {
         Ok(steps) => Ok(steps),
-        Err(TakeFault::Failed) => Err(NoValue::Refused(unreadable(
+        Err(FeedFault::Failed) => Err(NoValue::Refused(unreadable(
             alloc,
             "log",
             name,
             shelf.reason(),
         )?)),
-        Err(TakeFault::TooLong { .. }) => {
+        Err(FeedFault::TooLong) => {
             Err(NoValue::Refused(past_limit(alloc, "log", name, LOG_LIMIT)?))
         }
-        Err(TakeFault::Mem) => Err(NoValue::Memory),
+        Err(FeedFault::Full) => Err(NoValue::Room),
+        Err(FeedFault::Mem) => Err(NoValue::Memory),
     }
 }
 
@@ -106,21 +113,26 @@ fn verdict_on(
 /// The log is read in pieces and its steps are judged as they come; it is read to its end before the answer.
 ///
 /// # Errors
-/// Where the file is refused, with the reply that says why, and where memory runs out.
+/// Where the file is refused, with the reply that says why; `Room` only where the steps take more bytes than the limit;
+/// and where memory runs out.
 pub fn judge_log<S: Shelf>(
     alloc: Global,
     shelf: &mut S,
     name: &str,
     checker: &mut Checker,
+    limit: Option<u128>,
 ) -> Result<Reply, NoValue>
     ensures answer { (rows : List Row) (vars : ℕ) → checker.old ≡ no_step_of rows vars
         → Answers (reads (store_between S.Shelf shelf.old shelf.new) (codes "log") name.now most_log_bytes 0
         (λ bytes. says_log (log_of bytes) (IsVerdictOver rows vars))) result }
+    ensures within { OnOk result (has_room limit checker.old ≡ true → has_room limit checker.new ≡ true) }
+    ensures full { IsErrOf result NoValue.Room →
+        PassesLimit (S.contents shelf.old name.now) limit start checker.old checker.new }
     ensures taken { S.taken shelf.new ≤ S.taken shelf.old + (most_log_bytes + 1) }
     ensures contents { (n : List ℕ) → S.contents shelf.new n ≡ S.contents shelf.old n }
 {
     let mut feed = LogFeed::new(alloc);
-    let steps = log_in(alloc, shelf, name, &mut feed, checker)?;
+    let steps = log_in(alloc, shelf, name, &mut feed, checker, limit)?;
     verdict_on(alloc, name, feed, checker, steps)
 }
 
@@ -130,6 +142,7 @@ fn check_log<S: Shelf>(
     shelf: &mut S,
     name: &str,
     encoding: &Encoding,
+    limit: Option<u128>,
 ) -> Result<Reply, NoValue>
     ensures answer { Answers (reads (store_between S.Shelf shelf.old shelf.new) (codes "log") name.now most_log_bytes 0
         (λ bytes. says_log (log_of bytes) (IsVerdict encoding.now (rows_of encoding.now)))) result }
@@ -137,20 +150,22 @@ fn check_log<S: Shelf>(
     ensures contents { (n : List ℕ) → S.contents shelf.new n ≡ S.contents shelf.old n }
 {
     let mut checker = checker_of(alloc, encoding)?;
-    judge_log(alloc, shelf, name, &mut checker)
+    judge_log(alloc, shelf, name, &mut checker, limit)
 }
 
 /// Checks the log of one file over the rows of the league of the other.
 ///
-/// The log is read in pieces and its steps are judged as they come; it is read to its end before the answer.
+/// The log is read in pieces and its steps are judged as they come; it is read to its end before the answer. `judge_log`
+/// says what the limit does.
 ///
 /// # Errors
-/// Where a file is refused, with the reply that says why, and where memory runs out.
+/// Where a file is refused, with the reply that says why, and where memory or room is wanting.
 pub fn check<S: Shelf>(
     alloc: Global,
     shelf: &mut S,
     instance: &str,
     log: &str,
+    limit: Option<u128>,
 ) -> Result<Reply, NoValue>
     ensures answer { Answers (checked (store_between S.Shelf shelf.old shelf.new)
         instance.now log.now) result }
@@ -160,5 +175,5 @@ pub fn check<S: Shelf>(
     let first = file(alloc, shelf, "instance", instance, INSTANCE_LIMIT)?;
     let league = league_in(alloc, instance, &first)?;
     let encoding = encoding_of(alloc, &league)?;
-    check_log(alloc, shelf, log, &encoding)
+    check_log(alloc, shelf, log, &encoding, limit)
 }

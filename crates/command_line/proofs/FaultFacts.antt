@@ -13,9 +13,11 @@ pub option_role-some : (option_role topic.Solve (codes "--seed") ≡ Some role.D
     × (option_role topic.Explain (codes "--seconds") ≡ Some role.Seconds)
     × (option_role topic.Patterns (codes "--seconds") ≡ None)
     × (option_role topic.Check (codes "--conflicts") ≡ None)
+    × (option_role topic.Check (codes "--room") ≡ Some role.Room)
+    × (option_role topic.Values (codes "--room") ≡ None)
     × (option_role topic.Solve (codes "--from") ≡ Some role.Solution)
     × (option_role topic.Trial (codes "--from") ≡ None)
-option_role-some = (refl, refl, refl, refl, refl, refl, refl, refl, refl, refl, refl)
+option_role-some = (refl, refl, refl, refl, refl, refl, refl, refl, refl, refl, refl, refl, refl)
 
 pub fits-some : (fits role.Teams (codes "8") ≡ true)
     × (fits role.Teams (codes "7") ≡ false)

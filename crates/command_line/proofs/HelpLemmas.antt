@@ -24,7 +24,9 @@ name_help name =
     (none_if (bytes_eq name (codes "audit")) _
     (none_if (bytes_eq name (codes "trial")) _
     (none_if (bytes_eq name (codes "rows")) _
-    (none_if (bytes_eq name (codes "show")) _ (no_circle (bytes_eq name (codes "circle")))))))))))
+    (none_if (bytes_eq name (codes "show")) _
+    (none_if (bytes_eq name (codes "check")) _
+    (none_if (bytes_eq name (codes "bound")) _ (no_circle (bytes_eq name (codes "circle")))))))))))))
   where
     no_circle : (b : Bool) → (let none : Option Command = None in if b then none else none) ≡ None
     no_circle true = refl

@@ -5,7 +5,7 @@ use Rattle.std.proofs.lemmas.Bool.Decides.{nat_tests}
 use Rattle.std.proofs.lemmas.Slice.Eq.{bytes_eq-Decides}
 use Rattle.command_line.specs.Standing.{is_near_alone, once_more, standing}
 use Rattle.command_line.specs.Standing.Standing.{Never, Once, Often}
-use Rattle.command_line.specs.Words.{arguments_of, auditing, files_and_number, is_file_name, is_near, is_option, near_files_and_number}
+use Rattle.command_line.specs.Words.{arguments_of, files_and_number, is_file_name, is_near, is_option, near_files_and_number}
 use Rattle.command_line.specs.Words.{number_in, one_file, one_number, plain, said, teams_and_seed, without_near}
 
 pub standing-more : (value : List ℕ) (values : List (List ℕ)) → once_more value (standing values) ≡ standing (value ∷ values)
@@ -147,20 +147,3 @@ plain-many {Z} command [] many = absurd (omega arith)
 plain-many {Z} command (a ∷ []) many = absurd (omega arith)
 plain-many {Z} command (a ∷ b ∷ []) many = absurd (omega arith)
 plain-many {Z} command (a ∷ b ∷ c ∷ rest) many = refl
-
-pub auditing-few : {Z : Type 0} (words : List (String Z)) → length words < 4
-    → None ≡ auditing (map string_bytes words)
-auditing-few {Z} [] few = refl
-auditing-few {Z} (a ∷ []) few = refl
-auditing-few {Z} (a ∷ b ∷ []) few = refl
-auditing-few {Z} (a ∷ b ∷ c ∷ []) few = refl
-auditing-few {Z} (a ∷ b ∷ c ∷ d ∷ rest) few = absurd (omega arith)
-
-pub auditing-many : {Z : Type 0} (words : List (String Z)) → 5 ≤ length words
-    → None ≡ auditing (map string_bytes words)
-auditing-many {Z} [] many = absurd (omega arith)
-auditing-many {Z} (a ∷ []) many = absurd (omega arith)
-auditing-many {Z} (a ∷ b ∷ []) many = absurd (omega arith)
-auditing-many {Z} (a ∷ b ∷ c ∷ []) many = absurd (omega arith)
-auditing-many {Z} (a ∷ b ∷ c ∷ d ∷ []) many = absurd (omega arith)
-auditing-many {Z} (a ∷ b ∷ c ∷ d ∷ e ∷ rest) many = refl

@@ -6,7 +6,7 @@ use Rattle.command_line.specs.declared.goal.Goal.TheVariants as goal
 use Rattle.robin_watch.specs.declared.budgets.Budgets.{Budgets}
 use Rattle.command_line.specs.Words.{arguments_of, budget_in, has_options, is_file_name, is_option, is_shortest}
 use Rattle.command_line.specs.Words.{files_and_number, members_in, members_of, number_above, number_in, one_file}
-use Rattle.command_line.specs.Words.{one_number, reading, rising, said, two_files}
+use Rattle.command_line.specs.Words.{one_number, reading, rising, room_limit, said, two_files}
 use Rattle.command_line.specs.Words.{team_count_in, teams_and_seed, time_limit, tries_in, values_of, without_near, words_of, NeedsNoFile}
 use Rattle.command_line.specs.Words.Command.{Audit, Bound, Check, Circle, Demands, Explain, Make, Part, Patterns, Prove}
 use Rattle.command_line.specs.Words.Command.{Help, Resume, ResumeNear, Rows, Sheet, Show, Solve, SolveFrom, Trial, Validate, Values}
@@ -346,6 +346,26 @@ pub bound-some : (reading (codes "bound" ∷ codes "a" ∷ codes "b" ∷ []) ≡
     × (reading (codes "bound" ∷ codes "a" ∷ codes "-b" ∷ []) ≡ None)
     × (reading (codes "bound" ∷ codes "a" ∷ codes "b" ∷ codes "--conflicts" ∷ codes "7" ∷ []) ≡ None)
 bound-some = (refl, refl, refl, refl, refl)
+
+-- how much room the steps of a log have changes nothing of what is asked; it stands once at most, and has a number
+pub room-some : (reading (codes "check" ∷ codes "--room" ∷ codes "9" ∷ codes "a" ∷ codes "b" ∷ [])
+    ≡ Some (Check (codes "a") (codes "b")))
+    × (reading (codes "bound" ∷ codes "a" ∷ codes "--room" ∷ codes "0" ∷ codes "b" ∷ [])
+    ≡ Some (Bound (codes "a") (codes "b")))
+    × (reading (codes "audit" ∷ codes "a" ∷ codes "b" ∷ codes "3" ∷ codes "c" ∷ codes "--room" ∷ codes "7" ∷ [])
+    ≡ Some (Audit (codes "a") (codes "b") 3 (codes "c")))
+    × (reading (codes "check" ∷ codes "a" ∷ codes "b" ∷ codes "--room" ∷ []) ≡ None)
+    × (reading (codes "check" ∷ codes "a" ∷ codes "b" ∷ codes "--room" ∷ codes "1.5" ∷ []) ≡ None)
+    × (reading (codes "check" ∷ codes "--room" ∷ codes "9" ∷ codes "a" ∷ codes "--room" ∷ codes "9" ∷ codes "b" ∷ [])
+    ≡ None)
+    × (reading (codes "values" ∷ codes "a" ∷ codes "b" ∷ codes "--room" ∷ codes "9" ∷ []) ≡ None)
+room-some = (refl, refl, refl, refl, refl, refl, refl)
+
+pub room_limit-some : (room_limit (codes "check" ∷ codes "a" ∷ codes "b" ∷ codes "--room" ∷ codes "9" ∷ []) ≡ Some 9)
+    × (room_limit (codes "audit" ∷ codes "--room" ∷ codes "0" ∷ codes "a" ∷ codes "b" ∷ codes "3" ∷ codes "c" ∷ [])
+    ≡ Some 0)
+    × (room_limit (codes "check" ∷ codes "a" ∷ codes "b" ∷ []) ≡ None) × (room_limit [] ≡ None)
+room_limit-some = (refl, refl, refl, refl)
 
 pub two_files-some : (two_files (codes "a" ∷ codes "b" ∷ []) ≡ Some (codes "a", codes "b")) × (two_files [] ≡ None)
     × (two_files (codes "a" ∷ []) ≡ None) × (two_files (codes "a" ∷ codes "b" ∷ codes "c" ∷ []) ≡ None)

@@ -9,7 +9,7 @@ use Rattle.command_line.specs.declared.topic.Topic.TheVariants as topic
 use Rattle.command_line.specs.declared.role.Role.{Role}
 use Rattle.command_line.specs.declared.role.Role.TheVariants.{Instance, Solution, Log, Values, Slots, Teams, Seed}
 use Rattle.command_line.specs.declared.role.Role.TheVariants.{Members, Conflicts, Moves, Tries, Patterns, Draws, Seconds}
-use Rattle.command_line.specs.declared.role.Role.TheVariants.{Bound, Form, Most, Width}
+use Rattle.command_line.specs.declared.role.Role.TheVariants.{Bound, Form, Most, Room, Width}
 use Rattle.command_line.specs.declared.fault.WordFault.{WordFault}
 use Rattle.command_line.specs.declared.fault.WordFault.TheVariants.{NoWord, NoCommand, NotAlone, NoOption, NoValue, Twice}
 use Rattle.command_line.specs.declared.fault.WordFault.TheVariants.{Beside, Unfit, Missing, Surplus, Other}
@@ -30,6 +30,7 @@ fits Tries word = is_some (tries_in word)
 fits Patterns word = is_some (number_in word)
 fits Draws word = is_some (number_in word)
 fits Seconds word = is_some (number_in word)
+fits Room word = is_some (number_in word)
 fits Bound word = is_some (number_in word)
 fits Form word = is_some (form_in word)
 fits Most word = is_some (most_in word)
@@ -57,6 +58,10 @@ solve_option word =
 abbrev pub start_option : List ℕ → Option Role
 start_option word = if bytes_eq word (codes "--from") then Some Solution else solve_option word
 
+-- of the option of the commands that check logs
+abbrev pub log_option : List ℕ → Option Role
+log_option word = if bytes_eq word (codes "--room") then Some Room else None
+
 -- of the option of `rows`
 abbrev pub row_option : List ℕ → Option Role
 row_option word = if bytes_eq word (codes "--bound") then Some Bound else None
@@ -78,6 +83,9 @@ option_role topic.Prove word = timed_option word
 option_role topic.Resume word = solve_option word
 option_role topic.Rows word = row_option word
 option_role topic.Show word = show_option word
+option_role topic.Check word = log_option word
+option_role topic.Bound word = log_option word
+option_role topic.Audit word = log_option word
 option_role _ word = None
 
 -- whether a word is an option of a command that has no value, or none that it must have

@@ -147,7 +147,7 @@ files_and_number (first ∷ second ∷ rest) =
 abbrev pub conflicts_in : List (List ℕ) → Option (Option ℕ)
 conflicts_in words = said (Some usual_conflicts) budget_in (values_of (codes "--conflicts") words)
 
--- the time limit that a word writes, in seconds
+-- the limit that a word writes
 abbrev pub limit_in : List ℕ → Option (Option ℕ)
 limit_in word = option_map Some (number_in word)
 
@@ -160,6 +160,16 @@ seconds_in words = said None limit_in (values_of (codes "--seconds") words)
 abbrev pub time_limit : List (List ℕ) → Option ℕ
 time_limit [] = None
 time_limit (command ∷ words) = unwrap_or (seconds_in words) None
+
+-- how many megabytes the steps of a log may take: where the words don't say it, there is no such limit
+abbrev pub room_in : List (List ℕ) → Option (Option ℕ)
+room_in words = said None limit_in (values_of (codes "--room") words)
+
+-- The same limit for the words of a command line. It is no part of the command: a run that it ends is one whose memory
+-- ran out.
+abbrev pub room_limit : List (List ℕ) → Option ℕ
+room_limit [] = None
+room_limit (command ∷ words) = unwrap_or (room_in words) None
 
 -- how many tries there are where the words don't say it: one, or with a time limit as many as it leaves time for (own
 -- choice)
@@ -206,6 +216,10 @@ solve_options =
 
 abbrev pub start_options : List (List ℕ)
 start_options = codes "--from" ∷ solve_options
+
+-- the name of the option of the commands that check logs
+abbrev pub log_options : List (List ℕ)
+log_options = codes "--room" ∷ []
 
 -- `solve` of a file from the season of another file
 abbrev pub starting : List ℕ → Budgets → List ℕ → Option Command
@@ -410,9 +424,7 @@ making teams seed = option_and_then (λ n. option_map (Make n) (number_in seed))
 abbrev pub over_files : List ℕ → List ℕ → List ℕ → Option Command
 over_files command first second =
     if bytes_eq command (codes "validate") then Some (Validate first second)
-    else (if bytes_eq command (codes "check") then Some (Check first second)
-    else (if bytes_eq command (codes "bound") then Some (Bound first second)
-    else (if bytes_eq command (codes "values") then Some (Values first second) else None)))
+    else (if bytes_eq command (codes "values") then Some (Values first second) else None)
 
 -- the command of this name that has no options
 abbrev pub plain : List ℕ → List (List ℕ) → Option Command
@@ -424,13 +436,44 @@ plain command (first ∷ second ∷ []) =
     else (if is_file_name first && is_file_name second then over_files command first second else None))
 plain command _ = None
 
--- `audit` over two files, with a number of slots and a log
-abbrev pub auditing : List (List ℕ) → Option Command
-auditing (instance ∷ solution ∷ slots ∷ log ∷ []) =
-    if is_file_name instance && (is_file_name solution && is_file_name log)
-    then option_map (λ k. Audit instance solution k log) (number_in slots)
+-- `check` over two files, with how much room its steps have said before, between or behind them
+abbrev pub checking : List (List ℕ) → Option Command
+checking words =
+    if has_options log_options words
+    then option_and_then (λ files. option_map (λ room. Check files.0 files.1) (room_in words))
+    (two_files (arguments_of words))
     else None
-auditing _ = None
+
+-- `bound` over two files, with the same option
+abbrev pub bounded_by : List (List ℕ) → Option Command
+bounded_by words =
+    if has_options log_options words
+    then option_and_then (λ files. option_map (λ room. Bound files.0 files.1) (room_in words))
+    (two_files (arguments_of words))
+    else None
+
+-- a number and a file, as arguments
+abbrev pub number_and_file : List (List ℕ) → Option (ℕ × List ℕ)
+number_and_file [] = None
+number_and_file (word ∷ rest) =
+    option_and_then (λ k. option_map (λ file. (k, file)) (one_file rest)) (number_in word)
+
+-- two files, a number and a third file, as arguments
+abbrev pub files_with_log : List (List ℕ) → Option (List ℕ × List ℕ × ℕ × List ℕ)
+files_with_log [] = None
+files_with_log (first ∷ []) = None
+files_with_log (first ∷ second ∷ rest) =
+    if is_file_name first && is_file_name second
+    then option_map (λ found. (first, second, found.0, found.1)) (number_and_file rest)
+    else None
+
+-- `audit` over two files, with a number of slots and a log, and with the same option
+abbrev pub auditing : List (List ℕ) → Option Command
+auditing words =
+    if has_options log_options words
+    then option_and_then (λ found. option_map (λ room. Audit found.0 found.1 found.2 found.3) (room_in words))
+    (files_with_log (arguments_of words))
+    else None
 
 -- the words that follow a command, by its name
 abbrev pub following : List (List ℕ) → Option Command
@@ -444,7 +487,9 @@ following (command ∷ words) =
     else (if bytes_eq command (codes "audit") then auditing words
     else (if bytes_eq command (codes "trial") then trying words
     else (if bytes_eq command (codes "rows") then rowing words
-    else (if bytes_eq command (codes "show") then showing words else plain command words))))))))
+    else (if bytes_eq command (codes "show") then showing words
+    else (if bytes_eq command (codes "check") then checking words
+    else (if bytes_eq command (codes "bound") then bounded_by words else plain command words))))))))))
 
 -- ---- help and the version
 

@@ -73,6 +73,48 @@ fn file_and_number_behind<'a>(
     Some((first, second, number))
 }
 
+/// The two files, the number and the log among the arguments.
+pub(crate) fn files_with_log(words: &[String]) -> Option<(&str, &str, u64, &str)>
+    ensures { option_map (λ found. (found.0.now, found.1.now, found.2, found.3.now)) result
+        ≡ options.files_with_log (arguments_of (map string_bytes words.now)) }
+{
+    let Some((first, rest)) = first_argument(words) else {
+        return None;
+    };
+    file_and_log_behind(first, rest)
+}
+
+/// A file, with the second one, the number and the log among the arguments behind it.
+fn file_and_log_behind<'a>(
+    first: &'a str,
+    words: &'a [String],
+) -> Option<(&'a str, &'a str, u64, &'a str)>
+    ensures { option_map (λ found. (found.0.now, found.1.now, found.2, found.3.now)) result
+        ≡ options.files_with_log (first.now ∷ arguments_of (map string_bytes words.now)) }
+{
+    let Some((second, rest)) = first_argument(words) else {
+        return None;
+    };
+    if !are_names(first, second) {
+        return None;
+    }
+    let (number, log) = number_and_file(rest)?;
+    Some((first, second, number, log))
+}
+
+/// The number and the file among the arguments.
+fn number_and_file(words: &[String]) -> Option<(u64, &str)>
+    ensures { option_map (λ found. (found.0, found.1.now)) result
+        ≡ options.number_and_file (arguments_of (map string_bytes words.now)) }
+{
+    let Some((word, rest)) = first_argument(words) else {
+        return None;
+    };
+    let number = number(word)?;
+    let file = one_file(rest)?;
+    Some((number, file))
+}
+
 /// The two files and the number among the arguments, among which `--near` stands too.
 pub(crate) fn near_files_and_number(words: &[String]) -> Option<(&str, &str, u64)>
     ensures { option_map (λ found. (found.0.now, found.1.now, found.2)) result

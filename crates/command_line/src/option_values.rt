@@ -1,8 +1,9 @@
 //! What the options among words say.
-ghost use Rattle.std.specs.Prelude.{◌≡◌, map, codes, false, string_bytes};
+ghost use Rattle.std.specs.Prelude.{◌≡◌, map, codes, false, None, string_bytes};
 ghost use Rattle.command_line.specs.Words as options;
 ghost use Rattle.command_line.specs.Words.{bound_in, budgets_in, conflicts_in, number_in, said, form_in, most_in};
-ghost use Rattle.command_line.specs.Words.{small_in, tries_in, seconds_in, time_limit, timed_conflicts_in, values_of};
+ghost use Rattle.command_line.specs.Words.{limit_in, room_in, room_limit, small_in, tries_in, seconds_in, time_limit};
+ghost use Rattle.command_line.specs.Words.{timed_conflicts_in, values_of};
 ghost use Rattle.command_line.specs.declared.goal.Goal.TheVariants.{Accepted};
 ghost use Rattle.command_line.specs.Standing.{once_more, standing};
 ghost use Rattle.command_line.specs.SeenStanding.{seen};
@@ -31,6 +32,17 @@ pub fn seconds_of(words: &[String]) -> Option<u64>
     match words {
         [] => None,
         [_, rest @ ..] => seconds_said(rest).unwrap_or(None),
+    }
+}
+
+/// How many megabytes the steps of a log may take by these words, without the program's name: None where they don't say
+/// it.
+pub fn room_of(words: &[String]) -> Option<u64>
+    ensures { result ≡ room_limit (map string_bytes words.now) }
+{
+    match words {
+        [] => None,
+        [_, rest @ ..] => room_said(rest).unwrap_or(None),
     }
 }
 
@@ -98,7 +110,21 @@ pub(crate) fn form_said(words: &[String]) -> Option<bool>
 fn seconds_said(words: &[String]) -> Option<Option<u64>>
     ensures { result ≡ seconds_in (map string_bytes words.now) }
 {
-    match value_of(words, "--seconds") {
+    limit_said(words, "--seconds")
+}
+
+/// How many megabytes the steps of a log may take, if the words say it.
+pub(crate) fn room_said(words: &[String]) -> Option<Option<u64>>
+    ensures { result ≡ room_in (map string_bytes words.now) }
+{
+    limit_said(words, "--room")
+}
+
+/// The limit that an option says, if it stands.
+fn limit_said(words: &[String], name: &str) -> Option<Option<u64>>
+    ensures { result ≡ said None limit_in (values_of name.now (map string_bytes words.now)) }
+{
+    match value_of(words, name) {
         Standing::Never => Some(None),
         Standing::Once(word) => limit(word),
         Standing::Often => None,

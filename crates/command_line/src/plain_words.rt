@@ -1,6 +1,6 @@
 //! The words of commands that have no options.
 ghost use Rattle.std.specs.Prelude.{◌≡◌, [], ◌∷◌, map, string_bytes, option_map, IfSome};
-ghost use Rattle.command_line.specs.Words.{auditing, making, parting, HasTeams, plain};
+ghost use Rattle.command_line.specs.Words.{making, parting, HasTeams, plain};
 ghost use Rattle.command_line.specs.SeenWords.{command_of};
 
 use crate::list::is_list;
@@ -34,16 +34,6 @@ fn with_two<'a>(command: &str, first: &'a str, second: &'a str) -> Option<Words<
         Some(Words::Validate {
             instance: first,
             solution: second,
-        })
-    } else if command == "check" {
-        Some(Words::Check {
-            instance: first,
-            log: second,
-        })
-    } else if command == "bound" {
-        Some(Words::Bound {
-            instance: first,
-            log: second,
         })
     } else if command == "values" {
         Some(Words::Values {
@@ -89,43 +79,4 @@ fn with_one<'a>(command: &str, argument: &'a str) -> Option<Words<'a>>
     }
     let n = team_count(argument)?;
     Some(Words::Circle { n })
-}
-
-/// `audit` over two files, with a number of slots and a log.
-pub(crate) fn read_audit(words: &[String]) -> Option<Words<'_>>
-    ensures reading { option_map command_of result ≡ auditing (map string_bytes words.now) }
-    ensures teams { IfSome result (λ command. HasTeams (command_of command)) }
-{
-    match words {
-        [instance, solution, slots, log] => audit_of(
-            instance.as_str(),
-            solution.as_str(),
-            slots.as_str(),
-            log.as_str(),
-        ),
-        _ => None,
-    }
-}
-
-/// `audit` with these words.
-fn audit_of<'a>(
-    instance: &'a str,
-    solution: &'a str,
-    slots: &str,
-    log: &'a str,
-) -> Option<Words<'a>>
-    ensures reading { option_map command_of result
-        ≡ auditing (instance.now ∷ solution.now ∷ slots.now ∷ log.now ∷ []) }
-    ensures teams { IfSome result (λ command. HasTeams (command_of command)) }
-{
-    if !is_name(instance) || !is_name(solution) || !is_name(log) {
-        return None;
-    }
-    let k = number(slots)?;
-    Some(Words::Audit {
-        instance,
-        solution,
-        k,
-        log,
-    })
 }

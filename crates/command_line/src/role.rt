@@ -37,6 +37,8 @@ pub enum Role {
     Draws,
     /// The value of `--seconds`.
     Seconds,
+    /// The value of `--room`.
+    Room,
     /// The value of `--bound`.
     Bound,
     /// The value of `--form`.
@@ -59,6 +61,7 @@ pub(crate) fn fits(role: Role, word: &str) -> bool
         | Role::Patterns
         | Role::Draws
         | Role::Seconds
+        | Role::Room
         | Role::Bound => number(word).is_some(),
         Role::Teams => team_count(word).is_some(),
         Role::Members => is_list(word),
@@ -93,6 +96,7 @@ pub(crate) fn option_role(command: Topic, word: &str) -> Option<Role>
         Topic::Explain | Topic::Prove => timed_option(word),
         Topic::Rows => row_option(word),
         Topic::Show => show_option(word),
+        Topic::Check | Topic::Bound | Topic::Audit => log_option(word),
         _ => None,
     }
 }
@@ -114,6 +118,16 @@ fn timed_option(word: &str) -> Option<Role>
     match word {
         "--conflicts" => Some(Role::Conflicts),
         "--seconds" => Some(Role::Seconds),
+        _ => None,
+    }
+}
+
+/// What the value of an option of a command that checks logs is to be.
+fn log_option(word: &str) -> Option<Role>
+    ensures { result ≡ faults.log_option word.now }
+{
+    match word {
+        "--room" => Some(Role::Room),
         _ => None,
     }
 }

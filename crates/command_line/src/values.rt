@@ -60,7 +60,7 @@ pub(crate) fn small(word: &str) -> Option<u32>
     }
 }
 
-/// The time limit that a word writes, in seconds.
+/// The limit that a word writes.
 pub(crate) fn limit(word: &str) -> Option<Option<u64>>
     ensures { result ≡ limit_in word.now }
 {

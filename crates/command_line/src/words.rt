@@ -4,7 +4,8 @@ ghost use Rattle.command_line.specs.Words.{asking, following, helping, HasTeams,
 ghost use Rattle.command_line.specs.SeenWords.{command_of};
 
 use crate::goal::Goal;
-use crate::plain_words::{read_audit, read_plain};
+use crate::log_words::{read_audit, read_bound, read_check};
+use crate::plain_words::read_plain;
 use crate::row_words::read_rows;
 use crate::search_words::{
     read_explain, read_patterns, read_prove, read_resume, read_solve, read_trial,
@@ -239,6 +240,10 @@ fn follow<'a>(command: &str, words: &'a [String]) -> Option<Words<'a>>
         read_rows(words)
     } else if command == "show" {
         read_show(words)
+    } else if command == "check" {
+        read_check(words)
+    } else if command == "bound" {
+        read_bound(words)
     } else {
         read_plain(command, words)
     }

@@ -17,7 +17,8 @@ use Rattle.answers.specs.declared.status.Status.{Status}
 use Rattle.answers.specs.declared.status.Status.TheVariants.{Yes, No, File, Spent, ReadFault, Better}
 use Rattle.answers.proofs.StageLemmas.{first-works, says-known, second-works, takes-known}
 use Rattle.command_prove.proofs.BoundAnswers.{few-small, few-yes}
-use Rattle.command_prove.specs.Prove.{IsBettered, IsLeast, IsShown, IsShownBy, IsWellFormedCase, proved}
+use Rattle.command_prove.specs.Prove.{IsBettered, IsLeast, IsShown, IsShownBy, IsSpentBelow}
+use Rattle.command_prove.specs.Prove.{IsWellFormedCase, proved}
 use Rattle.command_prove.proofs.ProveStages.{solution_stages}
 
 -- ---- what is shown
@@ -134,6 +135,17 @@ shown-no league conflicts games answer (inr (inr (inl h))) is accepted =
 shown-no league conflicts games answer (inr (inr (inr h))) is accepted =
     let same : Spent ≡ No = other Spent No answer h.status is in cc
 
+shown-spent : {may_stop : Type 0} (league : Instance) (conflicts : Option ℕ) (games : List Game) (answer : Answer)
+    → IsShown league conflicts may_stop games answer → answer.status ≡ Spent
+    → IsSpentBelow league conflicts may_stop games answer
+shown-spent league conflicts games answer (inl h) is =
+    let same : No ≡ Spent = other No Spent answer h.status is in cc
+shown-spent league conflicts games answer (inr (inl h)) is =
+    let same : Yes ≡ Spent = other Yes Spent answer h.status is in cc
+shown-spent league conflicts games answer (inr (inr (inl h))) is =
+    let same : Better ≡ Spent = other Better Spent answer h.status is in cc
+shown-spent league conflicts games answer (inr (inr (inr h))) is = h
+
 pub shown-refused : {may_stop : Type 0} (league : Instance) (conflicts : Option ℕ) (games : List Game) (answer : Answer)
     → (IsAccepted league (counts_of games) → ⊥) → IsShown league conflicts may_stop games answer → answer.status ≡ No
 shown-refused league conflicts games answer fails (inl h) = h.status
@@ -155,12 +167,19 @@ better-no_file answer is refused = let same : Better ≡ File = other Better Fil
 better-no_fault : (answer : Answer) → answer.status ≡ Better → answer.status ≡ ReadFault → ⊥
 better-no_fault answer is refused = let same : Better ≡ ReadFault = other Better ReadFault answer is refused in cc
 
+spent-no_file : (answer : Answer) → answer.status ≡ Spent → answer.status ≡ File → ⊥
+spent-no_file answer is refused = let same : Spent ≡ File = other Spent File answer is refused in cc
+
+spent-no_fault : (answer : Answer) → answer.status ≡ Spent → answer.status ≡ ReadFault → ⊥
+spent-no_fault answer is refused = let same : Spent ≡ ReadFault = other Spent ReadFault answer is refused in cc
+
 -- what an answer says by its status: where it is yes, the schedule's objective is the least; where it is a better
--- schedule, the league accepts that
+-- schedule, the league accepts that; where the budget is spent, no schedule costs less than a floor
 pub record ShowsAs (league : Instance) (limits : Option ℕ → Type 0) (may_stop : Type 0) (games : List Game)
     (answer : Answer) : Type 0 where
   pub least : answer.status ≡ Yes → (conflicts : Option ℕ) × IsLeast league conflicts games answer
   pub better : answer.status ≡ Better → IsBettered league games answer
+  pub spent : answer.status ≡ Spent → (conflicts : Option ℕ) × IsSpentBelow league conflicts may_stop games answer
 
 pub proved-known : (store : Store)
     (instance solution first second : List ℕ) (league : Instance) (games : List Game) (limits : Option ℕ → Type 0)
@@ -179,4 +198,9 @@ proved-known store instance solution first second league games limits may_stop a
           proved-goes store instance solution first second league games limits may_stop answer first_known second_known
           says_league says_games (better-no_file answer is) (better-no_fault answer is) given in
           shown-better league shown.0 games answer shown.2 is;
+      spent = λ is.
+          let shown : IsShownBy league limits may_stop games answer =
+          proved-goes store instance solution first second league games limits may_stop answer first_known second_known
+          says_league says_games (spent-no_file answer is) (spent-no_fault answer is) given in
+          (shown.0, shown-spent league shown.0 games answer shown.2 is);
     }

@@ -25,14 +25,16 @@ use Rattle.refutation.specs.declared.verdict.Verdict.TheVariants.{Accepted}
 use Rattle.clause_search.specs.Answers.{Refutes}
 use Rattle.bound_rows.specs.BoundRows.{bound_rows, bound_vars}
 use Rattle.bound_rows.specs.Faithful.{IsLowerBound}
-use Rattle.bounds.specs.Certificates.{certificate_text}
+use Rattle.bounds.specs.Certificates.{certificate_of, certificate_text}
 use Rattle.bounds.specs.declared.certificate.Certificate.{Certificate}
 use Rattle.bounds.specs.Proofs as proofs
 use Rattle.bounds.specs.declared.proved.Proved.{Proved}
 use Rattle.bounds.specs.declared.proved.Proved.TheVariants.{Least, Better, Spent}
 use Rattle.command_validate.specs.Validate.{IsJudgement}
 use Rattle.command_prove.specs.Bound.{bound_verdict}
-use Rattle.command_prove.specs.Prove.{IsShown, IsShownBy}
+use Rattle.floors.specs.Floors.{IsFloor}
+use Rattle.floors.specs.declared.floor.Floor.{Floor}
+use Rattle.command_prove.specs.Prove.{IsCertified, IsShown, IsShownBy, spent_text}
 use Rattle.command_prove.specs.Told.{CanBeWritten, Tells}
 
 -- ---- what a test says
@@ -74,11 +76,29 @@ least-verdict league limit cost steps refutes = least-by league limit cost steps
 abbrev certificate_said : List Step → ℕ → Result Certificate Fault
 certificate_said log cost = Ok (record { bound = cost; log = log })
 
-pub shown-told : {may_stop : Type 0} (league : Instance) (limit : Option ℕ) (games : List Game) (proved : Proved)
-    (answer : Answer) → IsTeamCount league.n → IsAccepted league (counts_of games)
-    → proofs.IsProved league (counts_of games) limit may_stop proved → Tells proved answer
-    → IsShown league limit may_stop games answer
-shown-told league limit games (Least cost log) answer teams accepted is told = inr (inl (record {
+-- what is found of a floor, by the verdict of `bound`
+floor-verdict : (league : Instance) (floor : Floor) (test : Bool) → (floor.bound == 0) ≡ test → IsFloor league floor
+    → (if test then Accepted else verdict_of (bound_rows league (floor.bound - 1)) (bound_vars league) floor.log)
+    ≡ Accepted
+floor-verdict league floor true is found = refl
+floor-verdict league floor false is found =
+    let some : 1 ≤ floor.bound = grind (arith, nat_tests) in
+    found.accepted some
+
+floor-certified : (league : Instance) (floor : Floor) → IsFloor league floor
+    → certificate_of (certificate_text floor.bound floor.log)
+    ≡ Ok (record { bound = floor.bound; log = floor.log }) → IsCertified league floor.bound floor.log
+floor-certified league floor found reads_back = record {
+  least = found.least;
+  proves = floor-verdict league floor (floor.bound == 0) refl found;
+  reads_back = reads_back;
+}
+
+pub shown-told : {may_stop : Type 0} (league : Instance) (limit : Option ℕ) (games : List Game) (costs : ℕ)
+    (proved : Proved) (answer : Answer) → costs ≡ objective league (counts_of games) → IsTeamCount league.n
+    → IsAccepted league (counts_of games) → proofs.IsProved league (counts_of games) limit may_stop proved
+    → Tells league costs proved answer → IsShown league limit may_stop games answer
+shown-told league limit games costs (Least cost log) answer same teams accepted is told = inr (inl (record {
   steps = log;
   accepted = accepted;
   least = subst (λ (c : ℕ). IsLowerBound league c) is.cost is.least;
@@ -90,7 +110,7 @@ shown-told league limit games (Least cost log) answer teams accepted is told = i
   text = told.text ∙ ap (λ (c : ℕ). certificate_text c log) is.cost;
   reads_back = λ short. told.reads_back short is.nothing ∙ ap (certificate_said log) is.cost;
 }))
-shown-told league limit games (Better better cost) answer teams accepted is told = inr (inr (inl (record {
+shown-told league limit games costs (Better better cost) answer same teams accepted is told = inr (inr (inl (record {
   better = better;
   accepted = accepted;
   better_accepted = is.accepted;
@@ -103,17 +123,20 @@ shown-told league limit games (Better better cost) answer teams accepted is told
       ∙ solution-reads_back league.n better (Some (0, cost)) teams.at_most
       (round_robin-few league.n league.phased better teams is.fit is.accepted.round_robin) is.fit;
 })))
-shown-told league limit games (Spent log) answer teams accepted is told = inr (inr (inr (record {
+shown-told league limit games costs (Spent log) answer same teams accepted is told = inr (inr (inr (record {
   steps = log;
+  bound = told.0.bound;
+  floor = told.0.log;
   accepted = accepted;
   some = is.some;
   settled = is.settled;
   budget = is.spent.limited;
   spent = is.spent.spent;
   few = is.spent.few;
-  status = told.status;
-  text = told.text;
-  reads_back = told.reads_back;
+  certified = floor-certified league told.0 told.1 told.2.floor_reads_back;
+  status = told.2.status;
+  text = told.2.text ∙ ap (λ (c : ℕ). spent_text c told.0.bound told.0.log log) same;
+  reads_back = told.2.reads_back;
 })))
 
 pub proved-written : (league : Instance) (m : Counts) (limit : Option ℕ) (may_stop : Type 0) (proved : Proved)
@@ -133,13 +156,14 @@ replied-rejected {E} league conflicts may_stop games (Ok reply) fails judged =
 replied-rejected {E} league conflicts may_stop games (Err error) fails judged = tt
 
 pub replied-told : {E : Type 0} (league : Instance) (limit : Option ℕ) (may_stop : Type 0) (games : List Game)
-    (proved : Proved) (result : Result Reply E) → IsTeamCount league.n → IsAccepted league (counts_of games)
+    (costs : ℕ) (proved : Proved) (result : Result Reply E) → costs ≡ objective league (counts_of games)
+    → IsTeamCount league.n → IsAccepted league (counts_of games)
     → proofs.IsProved league (counts_of games) limit may_stop proved
-    → IfOk result (λ reply. Tells proved (answer_of reply))
+    → IfOk result (λ reply. Tells league costs proved (answer_of reply))
     → IfOk result (λ reply. IsShown league limit may_stop games (answer_of reply))
-replied-told {E} league limit may_stop games proved (Ok reply) teams accepted is told =
-    shown-told league limit games proved (answer_of reply) teams accepted is told
-replied-told {E} league limit may_stop games proved (Err error) teams accepted is told = tt
+replied-told {E} league limit may_stop games costs proved (Ok reply) same teams accepted is told =
+    shown-told league limit games costs proved (answer_of reply) same teams accepted is told
+replied-told {E} league limit may_stop games costs proved (Err error) same teams accepted is told = tt
 
 -- a reply within the limit to which the search kept
 pub replied-by : {E : Type 0} (league : Instance) (limits : Option ℕ → Type 0) (may_stop : Type 0)

@@ -1,5 +1,6 @@
 -- What `prove` answers: its stages in their order, and what is shown of a schedule.
-use Rattle.std.specs.Prelude.{◌≡◌, ℕ, ◌+◌, ◌-◌, ◌<◌, ◌≤◌, ◌^◌, ◌⊎◌, List, length, codes, Option, Some, Ok, IfSome}
+use Rattle.std.specs.Prelude.{◌≡◌, ℕ, ◌+◌, ◌-◌, ◌<◌, ◌≤◌, ◌^◌, ◌⊎◌, List, ◌++◌, length, codes, decimal}
+use Rattle.std.specs.Prelude.{Option, Some, Ok, IfSome}
 use Rattle.std.specs.List.{All}
 use Rattle.robin_io.specs.Outside.{Store}
 use Rattle.league.specs.Accepted.{IsAccepted, objective}
@@ -63,14 +64,31 @@ pub record IsBettered (league : Instance) (games : List Game) (answer : Answer) 
   pub text : answer.text ≡ solution_text better (Some (0, objective league (counts_of better)))
   pub reads_back : solution_of league.n (pieces answer.text) ≡ Ok better
 
--- No single legal move betters the schedule, where nothing may stop the run. A log is written that is spent at the
--- budget over the bound rows of one less than the schedule's objective. If no line of the log passes the limit of a
--- line, the text reads back as the log. The budget is below 3 to the number of variables, so a greater budget, or none,
--- is never spent.
+-- the line of the schedule's objective
+abbrev pub objective_line : ℕ → List ℕ
+objective_line cost = codes "objective " ++ (decimal cost ++ codes "\n")
+
+-- that line, a certificate of a floor and a log
+abbrev pub spent_text : ℕ → ℕ → List Step → List Step → List ℕ
+spent_text cost bound floor steps = objective_line cost ++ certificate_text bound floor ++ log_text steps
+
+-- A floor: no schedule that the league accepts has an objective below it. The certificate that says so is accepted by
+-- the verdict of `bound`, and its text reads back as it.
+pub record IsCertified (league : Instance) (bound : ℕ) (steps : List Step) : Type 0 where
+  pub least : IsLowerBound league bound
+  pub proves : bound_verdict league bound steps ≡ Accepted
+  pub reads_back : certificate_of (certificate_text bound steps) ≡ Ok (record { bound = bound; log = steps })
+
+-- No single legal move betters the schedule, where nothing may stop the run. Behind the schedule's objective a
+-- certificate of a floor is written, and then a log that is spent at the budget over the bound rows of one less than
+-- the objective. If no line of the log passes the limit of a line, its text reads back as the log. The budget is below
+-- 3 to the number of variables, so a greater budget, or none, is never spent.
 pub record IsSpentBelow (league : Instance) (conflicts : Option ℕ) (may_stop : Type 0) (games : List Game)
     (answer : Answer) : Type 0
   where
     pub steps : List Step
+    pub bound : ℕ
+    pub floor : List Step
     pub accepted : IsAccepted league (counts_of games)
     pub some : 1 ≤ objective league (counts_of games)
     pub settled : may_stop ⊎ IsSettled league.n league.phased (league_score league) (counts_of games)
@@ -78,9 +96,10 @@ pub record IsSpentBelow (league : Instance) (conflicts : Option ℕ) (may_stop :
     pub spent : IsSpent (length steps) (bound_rows league (objective league (counts_of games) - 1)) (bound_vars league)
         steps
     pub few : length steps < 3 ^ bound_vars league
+    pub certified : IsCertified league bound floor
     pub status : answer.status ≡ Spent
-    pub text : answer.text ≡ log_text steps
-    pub reads_back : HasShortLines steps → log_of answer.text ≡ Ok steps
+    pub text : answer.text ≡ spent_text (objective league (counts_of games)) bound floor steps
+    pub reads_back : HasShortLines steps → log_of (log_text steps) ≡ Ok steps
 
 -- what is shown of a schedule, by a search that learns at most so many clauses, in a run that may be stopped where
 -- `may_stop` says so

@@ -4,11 +4,15 @@ use Rattle.std.specs.List.{All}
 use Rattle.robinx_form.specs.Texts.{solution_text}
 use Rattle.answers.specs.Reply.{Answer}
 use Rattle.answers.specs.declared.status.Status.TheVariants as statuses
+use Rattle.league.specs.Instance.{Instance}
 use Rattle.refutation.specs.Logs.{log_of}
 use Rattle.refutation.specs.Steps.{NamesRows, Step}
 use Rattle.refutation.specs.Texts.{log_text}
 use Rattle.refutation.specs.Writable.{HasShortLines}
 use Rattle.bounds.specs.Certificates.{certificate_of, certificate_text}
+use Rattle.floors.specs.Floors.{IsFloor}
+use Rattle.floors.specs.declared.floor.Floor.{Floor}
+use Rattle.command_prove.specs.Prove.{spent_text}
 use Rattle.bounds.specs.declared.proved.Proved.{Proved}
 use Rattle.bounds.specs.declared.proved.Proved.TheVariants.{Least, Better, Spent}
 
@@ -25,15 +29,18 @@ pub record TellsLeast (objective : ℕ) (steps : List Step) (answer : Answer) : 
   pub reads_back : HasShortLines steps → (objective ≡ 0 → steps ≡ [])
       → certificate_of answer.text ≡ Ok (record { bound = objective; log = steps })
 
--- a log is written
-pub record TellsSpent (steps : List Step) (answer : Answer) : Type 0 where
+-- the line of the schedule's objective, a certificate of a floor and a log are written
+pub record TellsSpent (cost : ℕ) (floor : Floor) (steps : List Step) (answer : Answer) : Type 0 where
   pub status : answer.status ≡ statuses.Spent
-  pub text : answer.text ≡ log_text steps
-  pub reads_back : HasShortLines steps → log_of answer.text ≡ Ok steps
+  pub text : answer.text ≡ spent_text cost floor.bound floor.log steps
+  pub floor_reads_back : certificate_of (certificate_text floor.bound floor.log)
+      ≡ Ok (record { bound = floor.bound; log = floor.log })
+  pub reads_back : HasShortLines steps → log_of (log_text steps) ≡ Ok steps
 
--- what is written of each
-abbrev pub Tells : Proved → Answer → Type 0
-Tells (Least objective log) answer = TellsLeast objective log answer
-Tells (Better games objective) answer =
+-- what is written of each, beside the schedule's objective
+abbrev pub Tells : Instance → ℕ → Proved → Answer → Type 0
+Tells league cost (Least objective log) answer = TellsLeast objective log answer
+Tells league cost (Better games objective) answer =
     (answer.status ≡ statuses.Better) × (answer.text ≡ solution_text games (Some (0, objective)))
-Tells (Spent log) answer = TellsSpent log answer
+Tells league cost (Spent log) answer =
+    (floor : Floor) × IsFloor league floor × TellsSpent cost floor log answer

@@ -12,19 +12,21 @@ use bounds::Certificate;
 use command_check::verdict_reply;
 use league::League;
 use refutation::Verdict;
+use refutation_check::StepsFault;
 use std::alloc::{AllocError, Global};
 
 /// The verdict on a certificate. If it is accepted, every schedule that the league accepts has an objective of at least
 /// the bound.
 ///
 /// # Errors
-/// Only where memory runs out.
+/// Only where memory or room is wanting.
 fn verdict_on(
     alloc: Global,
     league: &League,
     certificate: &Certificate,
     terms: u64,
-) -> Result<Verdict, AllocError>
+    limit: Option<u128>,
+) -> Result<Verdict, StepsFault>
     requires { IsCounted league.now terms }
     ensures verdict { IfOk result (λ verdict.
         verdict ≡ bound_verdict league.now certificate.now.bound certificate.now.log) }
@@ -33,7 +35,14 @@ fn verdict_on(
     if certificate.bound == 0 {
         return Ok(Verdict::Accepted);
     }
-    let verdict = check_bound(alloc, league, certificate.bound, &certificate.log, terms)?;
+    let verdict = check_bound(
+        alloc,
+        league,
+        certificate.bound,
+        &certificate.log,
+        terms,
+        limit,
+    )?;
     Ok(verdict)
 }
 
@@ -66,15 +75,20 @@ fn bound_reply(
 }
 
 /// The answer to a certificate of a league.
+///
+/// # Errors
+/// Only where memory or room is wanting.
 pub(crate) fn judge(
     alloc: Global,
     league: &League,
     certificate: &Certificate,
     terms: u64,
-) -> Result<Reply, AllocError>
+    limit: Option<u128>,
+) -> Result<Reply, StepsFault>
     requires { IsCounted league.now terms }
     ensures { IfOk result (λ reply. IsBoundVerdict league.now certificate.now (answer_of reply)) }
 {
-    let verdict = verdict_on(alloc, league, certificate, terms)?;
-    bound_reply(alloc, certificate.bound, certificate.log.len(), verdict)
+    let verdict = verdict_on(alloc, league, certificate, terms, limit)?;
+    let reply = bound_reply(alloc, certificate.bound, certificate.log.len(), verdict)?;
+    Ok(reply)
 }

@@ -18,6 +18,7 @@ use command_check::LOG_LIMIT;
 use encoding::MOST_TERMS;
 use league::League;
 use refutation::LogFault;
+use refutation_check::StepsFault;
 use robin_io::Shelf;
 use robinx_read::INSTANCE_LIMIT;
 use std::alloc::{AllocError, Global};
@@ -61,23 +62,30 @@ fn judge_text(
     bytes: &[u8],
     league: &League,
     terms: u64,
+    limit: Option<u128>,
 ) -> Result<Reply, NoValue>
     requires { IsCounted league.now terms }
     ensures { Answers (says_certificate (certificate_of bytes.now) (IsBoundVerdict league.now)) result }
 {
     let certificate = certificate_in(alloc, name, bytes)?;
-    Ok(judge(alloc, league, &certificate, terms)?)
+    match judge(alloc, league, &certificate, terms, limit) {
+        Ok(reply) => Ok(reply),
+        Err(StepsFault::Full) => Err(NoValue::Room),
+        Err(StepsFault::Mem) => Err(NoValue::Memory),
+    }
 }
 
-/// Checks the certificate of one file over the bound rows of the league of the other.
+/// Checks the certificate of one file over the bound rows of the league of the other. Its steps may take so many bytes
+/// as the limit says, as `check_bound` counts them.
 ///
 /// # Errors
-/// Where a file is refused, with the reply that says why, and where memory runs out.
+/// Where a file is refused, with the reply that says why, and where memory or room is wanting.
 pub fn bound_file<S: Shelf>(
     alloc: Global,
     shelf: &mut S,
     instance: &str,
     log: &str,
+    limit: Option<u128>,
 ) -> Result<Reply, NoValue>
     ensures answer { Answers (bounded (store_between S.Shelf shelf.old shelf.new)
         instance.now log.now) result }
@@ -88,5 +96,5 @@ pub fn bound_file<S: Shelf>(
     let league = league_in(alloc, instance, &first)?;
     let terms = few_terms(alloc, &league)?;
     let second = file(alloc, shelf, "log", log, LOG_LIMIT)?;
-    judge_text(alloc, log, &second, &league, terms)
+    judge_text(alloc, log, &second, &league, terms, limit)
 }

@@ -1,15 +1,23 @@
 //! The answers of `prove`.
-ghost use Rattle.std.specs.Prelude.{◌≡◌, Some, IfOk};
+ghost use Rattle.std.specs.Prelude.{◌≡◌, [], Some, Ok, IfOk};
 ghost use Rattle.std.specs.List.{All};
 ghost use Rattle.robinx_form.specs.Texts as solutions;
 ghost use Rattle.answers.specs.SeenReply.{answer_of};
 ghost use Rattle.answers.specs.declared.status.Status.TheVariants as statuses;
 ghost use Rattle.refutation.specs.Steps.{NamesRows};
-ghost use Rattle.command_prove.specs.Told.{CanBeWritten, Tells, TellsLeast, TellsSpent};
+ghost use Rattle.refutation.specs.Writable.{HasShortLines};
+ghost use Rattle.bound_rows.specs.Bounded.{IsCounted};
+ghost use Rattle.bounds.specs.Certificates.{certificate_of};
+ghost use Rattle.bounds.specs.Certificates as certificates;
+ghost use Rattle.refutation.specs.Logs.{log_of};
+ghost use Rattle.refutation.specs.Texts as logs;
+ghost use Rattle.command_prove.specs.Prove.{spent_text};
+ghost use Rattle.command_prove.specs.Told.{CanBeWritten, Tells, TellsLeast};
 
 use answers::{Reply, Status};
-use bounds::{Proved, certificate_text};
-use league::Schedule;
+use bounds::{Counted, Proved, certificate_text};
+use floors::{Floor, floor_of};
+use league::{League, Schedule};
 use refutation::{Log, log_text};
 use robinx_write::solution_text;
 use std::alloc::{AllocError, Global};
@@ -39,22 +47,49 @@ fn better_reply(alloc: Global, schedule: &Schedule, objective: u64) -> Result<Re
     })
 }
 
-/// A log that is spent.
-fn spent_reply(alloc: Global, log: &Log) -> Result<Reply, AllocError>
-    requires { All NamesRows log.now }
-    ensures { IfOk result (λ reply. TellsSpent log.now (answer_of reply)) }
+/// A schedule's objective, a certificate of a floor, and a log that is spent.
+fn spent_reply(
+    alloc: Global,
+    cost: u128,
+    floor: &Floor,
+    log: &Log,
+) -> Result<Reply, AllocError>
+    requires named { All NamesRows floor.now.log }
+    requires short { HasShortLines floor.now.log }
+    requires nothing { floor.now.bound ≡ 0 → floor.now.log ≡ [] }
+    requires log { All NamesRows log.now }
+    ensures status { IfOk result (λ reply. (answer_of reply).status ≡ statuses.Spent) }
+    ensures text { IfOk result (λ reply. (answer_of reply).text
+        ≡ spent_text cost floor.now.bound floor.now.log log.now) }
+
+    // What is written of the floor reads back, and of the log if none of its lines is too long.
+    ensures floor_reads_back { IfOk result (λ _.
+        certificate_of (certificates.certificate_text floor.now.bound floor.now.log)
+        ≡ Ok (record { bound = floor.now.bound; log = floor.now.log })) }
+    ensures reads_back { IfOk result (λ _. HasShortLines log.now → log_of (logs.log_text log.now) ≡ Ok log.now) }
 {
-    let text = log_text(alloc, log)?;
+    let line = format!(in alloc; "objective {cost}\n")?;
+    let certificate = certificate_text(alloc, floor.bound, &floor.log)?;
+    let steps = log_text(alloc, log)?;
+    let mut text = line.into_bytes();
+    text.extend_from_slice(&certificate)?;
+    text.extend_from_slice(&steps)?;
     Ok(Reply {
         status: Status::Spent,
         text,
     })
 }
 
-/// What is shown of an accepted schedule.
-pub(crate) fn proof_reply(alloc: Global, proved: &Proved) -> Result<Reply, AllocError>
-    requires { CanBeWritten proved.now }
-    ensures { IfOk result (λ reply. Tells proved.now (answer_of reply)) }
+/// What is shown of an accepted schedule. If the budget is spent, the league's floor is found beside it.
+pub(crate) fn proof_reply(
+    alloc: Global,
+    league: &League,
+    counted: Counted,
+    proved: &Proved,
+) -> Result<Reply, AllocError>
+    requires counted { IsCounted league.now counted.terms }
+    requires written { CanBeWritten proved.now }
+    ensures { IfOk result (λ reply. Tells league.now counted.cost proved.now (answer_of reply)) }
 {
     match proved {
         Proved::Least { objective, log } => least_reply(alloc, *objective, log),
@@ -62,6 +97,10 @@ pub(crate) fn proof_reply(alloc: Global, proved: &Proved) -> Result<Reply, Alloc
             schedule,
             objective,
         } => better_reply(alloc, schedule, *objective),
-        Proved::Spent { log } => spent_reply(alloc, log),
+        Proved::Spent { log } => {
+            let floor = floor_of(alloc, league, counted.terms)?;
+            let reply = spent_reply(alloc, counted.cost, &floor, log)?;
+            Ok(reply)
+        }
     }
 }

@@ -27,7 +27,7 @@ use Rattle.refutation.specs.Steps.{Step, is_linear}
 use Rattle.refutation.specs.Texts.{log_text}
 use Rattle.clause_search.specs.Answers.{IsSpentAt}
 use Rattle.clause_search.specs.News.{IsTidy}
-use Rattle.pattern_search.proofs.NewsLemmas.{news-clauses}
+use Rattle.clause_search.proofs.SearchLemmas.{news-clauses}
 use Rattle.resume_rows.specs.Kept.{resume_rows}
 use Rattle.resume.specs.Answers.{IsResumedSeason, RefutesResuming}
 use Rattle.command_resume.specs.Resumed.{IsFound, IsFoundBy}

@@ -16,7 +16,7 @@ use Rattle.answers.specs.Reply.{Answer}
 use Rattle.answers.specs.SeenReply.{IsMalformed, MatchStage}
 use Rattle.answers.specs.Stages.{IsFile, IsUnread, Outcome, reads, says, takes}
 use Rattle.answers.specs.declared.reply.NoValue.{NoValue}
-use Rattle.answers.specs.declared.reply.NoValue.TheVariants.{Refused, Memory}
+use Rattle.answers.specs.declared.reply.NoValue.TheVariants.{Refused, Memory, Room}
 use Rattle.answers.proofs.StageLemmas.{says-value, takes-rest}
 use Rattle.encoding_base.specs.Variables.{var_count}
 use Rattle.refutation.specs.Logs.{Fault, log_of}
@@ -247,6 +247,7 @@ pub stage-wider : {X : Type 0} (goes : X → Type 0) (narrow wide : Outcome)
 stage-wider goes narrow wide wider (Ok x) given = given
 stage-wider goes narrow wide wider (Err (Refused refusal)) given = wider _ given
 stage-wider goes narrow wide wider (Err Memory) given = tt
+stage-wider goes narrow wide wider (Err Room) given = tt
 
 -- two files were read, one after the other
 pub raised-twice : (old between now front more : ℕ) → between ≡ raised old front → now ≡ raised between more

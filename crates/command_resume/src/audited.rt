@@ -43,12 +43,23 @@ fn system_of(
     }
 }
 
+/// What a log is audited by.
+#[derive(Clone, Copy, Debug)]
+pub struct Audit {
+    /// How many slots are played.
+    pub k: u64,
+    /// How many bytes the steps of the log may take, as `judge_log` of `command_check` limits them: any number of them,
+    /// where there is none.
+    pub limit: Option<u128>,
+}
+
 /// Checks the log of a file over resume rows.
 fn audit_log<S: Shelf>(
     alloc: Global,
     shelf: &mut S,
     name: &str,
     system: &ResumeSystem,
+    limit: Option<u128>,
 ) -> Result<Reply, NoValue>
     requires slots { system.now.k ≤ counts.slot_count system.now.league.n }
     ensures answer { Answers (reads (store_between S.Shelf shelf.old shelf.new) (codes "log") name.now most_log_bytes 0
@@ -57,28 +68,28 @@ fn audit_log<S: Shelf>(
     ensures contents { (n : List ℕ) → S.contents shelf.new n ≡ S.contents shelf.old n }
 {
     let mut checker = checker_of(alloc, system)?;
-    judge_log(alloc, shelf, name, &mut checker)
+    judge_log(alloc, shelf, name, &mut checker, limit)
 }
 
 /// Checks the log of a file over the resume rows of a league, of which the first k slots are played as a solution file
 /// says. The log is read in pieces and its steps are judged as they come; it is read to its end before the answer.
 ///
 /// # Errors
-/// Where a file is refused, with the reply that says why, and where memory runs out.
+/// Where a file is refused, with the reply that says why, and where memory or room is wanting.
 pub fn audit_file<S: Shelf>(
     alloc: Global,
     shelf: &mut S,
     instance: &str,
     solution: &str,
-    k: u64,
+    audit: Audit,
     log: &str,
 ) -> Result<Reply, NoValue>
     ensures answer { Answers (audited (store_between S.Shelf shelf.old shelf.new)
-        instance.now solution.now k log.now) result }
+        instance.now solution.now audit.k log.now) result }
     ensures taken { S.taken shelf.new ≤ S.taken shelf.old + (INSTANCE_LIMIT + 1 + (SOLUTION_LIMIT + 1) + (most_log_bytes + 1)) }
     ensures contents { (n : List ℕ) → S.contents shelf.new n ≡ S.contents shelf.old n }
 {
-    let season = season_in(alloc, shelf, instance, solution, k)?;
+    let season = season_in(alloc, shelf, instance, solution, audit.k)?;
     let system = system_of(alloc, &season.league, &season.played, season.slots)?;
-    audit_log(alloc, shelf, log, &system)
+    audit_log(alloc, shelf, log, &system, audit.limit)
 }

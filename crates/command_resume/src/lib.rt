@@ -12,6 +12,6 @@ mod replies;
 mod resumed;
 mod season;
 
-pub use audited::audit_file;
+pub use audited::{Audit, audit_file};
 pub use near::{NearResumption, resume_near_file};
 pub use resumed::{Resumption, resume_file};

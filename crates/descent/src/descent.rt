@@ -65,6 +65,13 @@ impl Descent {
 /// rules, at most `limit` of them. After a move it goes on with the move behind it, and it ends after one whole round
 /// of all moves of which none lowers the score, or at the limit. Games that cost nothing are settled without a round.
 ///
+/// - `weights`, `teams`, `round_robin` and `no_worse`: the rules stay, and the games are a double round robin of the
+///   same league that isn't worse, after an error too.
+/// - `first`, `fit` and `in_order`: the first games are those at the start, in order.
+/// - `trail` and `few`: the moves lead from there to the games at the end, and are at most `limit`.
+/// - `settled` and `spent`: the descent is settled exactly where no legal move of any kind lowers the score, and not
+///   settled only at the limit.
+///
 /// # Errors
 /// Only where memory runs out. Then the moves made so far stay made: the tally has a double round robin that isn't
 /// worse than at the start.
@@ -76,26 +83,17 @@ pub fn descend<R: Rule<L>, L>(
     steps: &mut Steps<L>,
 ) -> Result<Descent, AllocError>
     requires round_robin { IsRoundRobin tally.old.table.n phased (table_counts tally.old.table) }
-
-    // The rules stay, and the games are a double round robin of the same league that isn't worse: after an error too.
     ensures weights { tally.new.weights ≡ tally.old.weights }
     ensures teams { tally.new.table.n ≡ tally.old.table.n }
     ensures round_robin { IsRoundRobin tally.old.table.n phased (table_counts tally.new.table) }
     ensures no_worse { IsNoWorse (score_on R.Entries tally.old.weights (table_counts tally.new.table))
         (score_on R.Entries tally.old.weights (table_counts tally.old.table)) }
-
-    // The first games are those at the start, in order.
     ensures first { IfOk result (λ descent. counts_of descent.first ≡ table_counts tally.old.table) }
     ensures fit { IfOk result (λ descent. All (IsGame tally.old.table.n) descent.first) }
     ensures in_order { IfOk result (λ descent. IsInOrder descent.first) }
-
-    // The moves lead from there to the games at the end.
     ensures trail { IfOk result (λ descent. IsTrail tally.old.table.n phased (score_on R.Entries tally.old.weights)
         (table_counts tally.old.table) descent.trail (table_counts tally.new.table)) }
     ensures few { IfOk result (λ descent. length descent.trail ≤ limit) }
-
-    // The descent is settled exactly where no legal move of any kind lowers the score, and not settled only at the
-    // limit.
     ensures settled { IfOk result (λ descent. IsTrue descent.settled ↔ IsSettled tally.old.table.n phased
         (score_on R.Entries tally.old.weights) (table_counts tally.new.table)) }
     ensures spent { IfOk result (λ descent. descent.settled ≡ false → length descent.trail ≡ limit) }
@@ -104,6 +102,13 @@ pub fn descend<R: Rule<L>, L>(
 }
 
 /// Makes moves as `descend` does, until the watch ends it. The watch is asked before every 16th of all moves is tried.
+///
+/// The clauses `weights` to `few` are those of `descend`.
+///
+/// - `settled`, `costly` and `lowers`: where the descent is said to be settled, no legal move of any kind lowers the
+///   score. Else the games cost something, and a move lowers the score, unless the watch may end the descent.
+/// - `spent`: it isn't settled only at the limit, or, where the watch may end it, at a lower one.
+/// - `begun`: where it may make a move and a move lowers the score, it makes one, unless the watch may end it.
 ///
 /// # Errors
 /// Only where memory runs out. Then the moves made so far stay made: the tally has a double round robin that isn't
@@ -117,26 +122,17 @@ pub fn descend_watched<R: Rule<L>, L, W: Watch>(
     watch: &W,
 ) -> Result<Descent, AllocError>
     requires round_robin { IsRoundRobin tally.old.table.n phased (table_counts tally.old.table) }
-
-    // The rules stay, and the games are a double round robin of the same league that isn't worse: after an error too.
     ensures weights { tally.new.weights ≡ tally.old.weights }
     ensures teams { tally.new.table.n ≡ tally.old.table.n }
     ensures round_robin { IsRoundRobin tally.old.table.n phased (table_counts tally.new.table) }
     ensures no_worse { IsNoWorse (score_on R.Entries tally.old.weights (table_counts tally.new.table))
         (score_on R.Entries tally.old.weights (table_counts tally.old.table)) }
-
-    // The first games are those at the start, in order.
     ensures first { IfOk result (λ descent. counts_of descent.first ≡ table_counts tally.old.table) }
     ensures fit { IfOk result (λ descent. All (IsGame tally.old.table.n) descent.first) }
     ensures in_order { IfOk result (λ descent. IsInOrder descent.first) }
-
-    // The moves lead from there to the games at the end.
     ensures trail { IfOk result (λ descent. IsTrail tally.old.table.n phased (score_on R.Entries tally.old.weights)
         (table_counts tally.old.table) descent.trail (table_counts tally.new.table)) }
     ensures few { IfOk result (λ descent. length descent.trail ≤ limit) }
-
-    // Where the descent is said to be settled, no legal move of any kind lowers the score. Else the games cost
-    // something, and a move lowers the score, unless the watch may end the descent.
     ensures settled { IfOk result (λ descent. descent.settled ≡ true → IsSettled tally.old.table.n phased
         (score_on R.Entries tally.old.weights) (table_counts tally.new.table)) }
     ensures costly { IfOk result (λ descent. descent.settled ≡ false
@@ -144,12 +140,8 @@ pub fn descend_watched<R: Rule<L>, L, W: Watch>(
     ensures lowers { IfOk result (λ descent. descent.settled ≡ false → W.may_stop watch.now
         ⊎ (IsSettled tally.old.table.n phased (score_on R.Entries tally.old.weights) (table_counts tally.new.table)
         → ⊥)) }
-
-    // It isn't settled only at the limit, or, where the watch may end it, at a lower one.
     ensures spent { IfOk result (λ descent. descent.settled ≡ false
         → IsKeptTo (Some limit) (W.may_stop watch.now) (Some (length descent.trail))) }
-
-    // Where it may make a move and a move lowers the score, it makes one, unless the watch may end it.
     ensures begun { 1 ≤ limit → IfOk result (λ descent. descent.settled ≡ false
         → W.may_stop watch.now ⊎ (1 ≤ length descent.trail)) }
 {

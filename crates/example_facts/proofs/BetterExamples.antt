@@ -1,4 +1,6 @@
 -- An objective of nothing, one that is bettered, and logs that are spent, over the leagues of LeastExamples.
+use Rattle.clause_search.proofs.TurnLemmas.{All-front}
+use Rattle.clause_search.proofs.SearchLemmas.{AreNews-none}
 use Rattle.std.proofs.Common.{lit<, ◌≡◌, ◌⊎◌, inl, inr, ℕ, zero, suc, ◌<◌, ◌≤◌, true, false}
 use Rattle.std.proofs.Common.{nat_lt, List, [], ◌∷◌, drop, length, All, Option, Some}
 use Rattle.std.proofs.Common.{None, IsTrue, ◌-◌, ◌++◌, if◌then◌else◌, map, ap, arith, refl}
@@ -136,7 +138,7 @@ settled-four step lowers =
 pub spent-at_zero : IsSpentAt (bound_rows even_soon 3) 9 (Some 0) []
 spent-at_zero = record {
   limited = refl;
-  spent = record { count = refl; news = tt; quiet = (unit_false, unit_quiet) };
+  spent = record { count = refl; news = AreNews-none _ _; quiet = (unit_false, unit_quiet) };
   few = lit< tt;
   tidy = All-nil (IsTidy 9);
 }
@@ -239,7 +241,7 @@ least-at_once = record {
     before = [];
     hints = 30 ∷ 29 ∷ 28 ∷ [];
     last = refl;
-    news = tt;
+    news = AreNews-none _ _;
     within = omega arith;
     tidy = All-from_recursion (IsTidy 10) at_once (at_once-tidy, tt);
   };
@@ -320,8 +322,9 @@ never_quiet values paid home one =
 pub spent-nowhere : (m : Counts) (limit : Option ℕ) (may_stop : Type 0) (steps : List Step)
     → objective never_away m ≡ 7 → IsSpentBelow never_away m limit may_stop steps → ⊥
 spent-nowhere m limit may_stop steps costs is =
-    let quiet : IsQuiet is.spent.spent.quiet.0 (bound_rows never_away 6 ++ map row_of steps) =
-    subst (λ (n : ℕ). IsQuiet is.spent.spent.quiet.0 (bound_rows never_away (n - 1) ++ map row_of steps)) costs
-    is.spent.spent.quiet.1 in
+    let quiet : IsQuiet is.spent.spent.quiet.0 (bound_rows never_away 6) =
+    subst (λ (n : ℕ). IsQuiet is.spent.spent.quiet.0 (bound_rows never_away (n - 1))) costs
+    (All-front (IsQuietRow is.spent.spent.quiet.0) (bound_rows never_away (objective never_away m - 1)) _
+    is.spent.spent.quiet.1) in
     never_quiet is.spent.spent.quiet.0 (quiet 29 to_pay (omega arith)) (quiet 28 to_pay (omega arith))
     (quiet 27 to_pay (omega arith))

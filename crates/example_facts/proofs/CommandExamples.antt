@@ -1,5 +1,7 @@
 -- What `validate`, `solve` and `patterns` answer of leagues of two teams. x(0,1,s) is 1 + s, x(1,0,s) 3 + s, h(0,s) 5 + s,
 -- and h(1,s) 7 + s.
+use Rattle.pattern_search.proofs.NewsLemmas.{ArePatternNews-none}
+use Rattle.clause_search.proofs.SearchLemmas.{AreNews-none}
 use Rattle.std.proofs.Common.{lit<, ◌≡◌, ◌⊎◌, ℕ, zero, suc, ◌<◌, ◌≤◌, Bool, true, false, if◌then◌else◌, List, []}
 use Rattle.std.proofs.Common.{◌∷◌, ◌++◌, ◌==◌, length, Option, Some, None, Ok, IsSomeAnd, IsTrue, codes}
 use Rattle.std.proofs.Common.{nat_lt, All, arith, inl, inr, refl}
@@ -474,7 +476,7 @@ refutes-patterns = record {
   before = [];
   hints = 29 ∷ 30 ∷ 24 ∷ [];
   last = refl;
-  news = tt;
+  news = ArePatternNews-none _ _ _ _;
   named =
       All-from_recursion
       (λ hint. IsSomeAnd (row_numbered (rows_of home_last) hint) (λ row. is_pattern_row 4 row ≡ true))
@@ -504,7 +506,7 @@ spent-read = refl
 pub spent-patterns : IsPatternSpent even_soon (Some 0) []
 spent-patterns = record {
   limited = refl;
-  news = tt;
+  news = ArePatternNews-none _ _ _ _;
   quiet = (all_free, quiet_rows all_free (pattern_rows even_soon) refl);
   few = lit< tt;
   tidy = All-nil (IsTidy 8);
@@ -519,7 +521,7 @@ solve-spent = record {
   steps = [];
   patterns = Patterns turns;
   budget = refl;
-  spent = record { count = refl; news = tt; quiet = (all_free, quiet_rows all_free (rows_of even_soon) refl) };
+  spent = record { count = refl; news = AreNews-none _ _; quiet = (all_free, quiet_rows all_free (rows_of even_soon) refl) };
   few = lit< tt;
   pattern_rows = turns-set;
   status = refl;
@@ -562,7 +564,7 @@ season_values = valued (True ∷ False ∷ False ∷ True ∷ True ∷ False ∷
 spent-wanted : IsPatternSpent wanted (Some 0) []
 spent-wanted = record {
   limited = refl;
-  news = tt;
+  news = ArePatternNews-none _ _ _ _;
   quiet = (all_free, quiet_rows all_free (pattern_rows wanted) refl);
   few = lit< tt;
   tidy = All-nil (IsTidy 8);
@@ -573,7 +575,7 @@ solve-wanted = record {
   steps = [];
   patterns = pattern_answers.Spent [];
   budget = refl;
-  spent = record { count = refl; news = tt; quiet = (season_values, quiet_rows season_values (rows_of wanted) refl) };
+  spent = record { count = refl; news = AreNews-none _ _; quiet = (season_values, quiet_rows season_values (rows_of wanted) refl) };
   few = lit< tt;
   pattern_rows = spent-wanted;
   status = refl;

@@ -1,6 +1,7 @@
 -- A phased league of two teams with a wish (number 1) and three demands: team 0 isn't away in slot 0 (2); each team is
 -- at home once, as it always is (3); and team 1 is at home to team 0 in slot 0 (4). Constraints 2 and 4 contradict each
 -- other. x(0,1,s) is 1 + s, x(1,0,s) 3 + s, h(0,s) 5 + s, and h(1,s) 7 + s.
+use Rattle.clause_search.proofs.SearchLemmas.{AreNews-none}
 use Rattle.std.proofs.Common.{lit<, lit≤, ◌≡◌, ℕ, ◌≤◌, true, List, [], ◌∷◌, drop, length}
 use Rattle.std.proofs.Common.{Option, Some, None, IsTrue}
 use Rattle.std.proofs.Common.{inl, inr, refl, sym, ◌∙◌, arith}
@@ -252,7 +253,7 @@ refutes-apart = record {
 spent_bare : IsSpentOn (two_with []) (Some 0) []
 spent_bare = record {
   limited = refl;
-  spent = record { count = refl; news = tt; quiet = (all_free, quiet_pairs season_pairs) };
+  spent = record { count = refl; news = AreNews-none _ _; quiet = (all_free, quiet_pairs season_pairs) };
   few = lit< tt;
   tidy = All-nil (IsTidy 8);
   writable = writable-none;

@@ -1,4 +1,5 @@
 -- Descents of the league of SolveExamples, what a search leaves open, whole answers, and the best of two tries.
+use Rattle.pattern_search.proofs.NewsLemmas.{ArePatternNews-none}
 use Rattle.std.proofs.Common.{lit<, lit≤, ◌≡◌, ℕ, zero, suc, ◌+◌, ◌<◌, ◌≤◌, ◌==◌, Bool, true, false, ◌&&◌, ◌||◌, nat_lt, cond}
 use Rattle.std.proofs.Common.{if◌then◌else◌, List, [], ◌∷◌, get_or, length, Option, Some, None, IfSome}
 use Rattle.std.proofs.Common.{inl, inr, refl, sym, arith, ap, ap₂, IsTrue}
@@ -229,7 +230,7 @@ leaves-patterns = record {
 pub leaves-spent : LeavesOpen one_there 0 (patterns.Spent [])
 leaves-spent = record {
   limited = refl;
-  news = tt;
+  news = ArePatternNews-none _ _ _ _;
   quiet = (all_free, quiet_pairs pattern_pairs);
   few = lit< tt;
   tidy = All-nil (IsTidy 8);

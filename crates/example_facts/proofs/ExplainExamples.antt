@@ -1,4 +1,5 @@
 -- What `explain` and `part` write of the league of ConflictExamples, and what is said of that.
+use Rattle.clause_search.proofs.SearchLemmas.{AreNews-none}
 use Rattle.std.proofs.Common.{lit<, lit≤, ◌≡◌, ℕ, zero, suc, ◌<◌, ◌≤◌, ◌∙◌, ◌⊎◌, true, List, [], ◌∷◌, ◌++◌, length}
 use Rattle.std.proofs.Common.{◌+◌, get_or, map, Option, Some, None, Ok, Result, codes, bytes_eq, if◌then◌else◌, IsTrue}
 use Rattle.std.proofs.Common.{ap, ap₂, subst, sym, refl, arith, inl, inr}
@@ -521,7 +522,7 @@ spent_apart = record {
   limited = refl;
   spent = record {
     count = refl;
-    news = tt;
+    news = AreNews-none _ _;
     quiet = (
       all_free,
       All-append (IsQuietRow all_free) (map pair_row season_pairs) (one_game ∷ []) (quiet_pairs season_pairs)

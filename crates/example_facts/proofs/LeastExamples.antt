@@ -1,6 +1,7 @@
 -- Two teams, in no phases. x(0,1,s) is 1 + s, x(1,0,s) 3 + s, h(0,s) 5 + s and h(1,s) 7 + s. Behind slot 0 one of them
 -- has had a home game more, so that where they are to be even there, each season costs 4: a log of two steps proves it,
 -- and one of none is spent. The league that wants team 0 away in slot 0, at 3, has a season at 3 and one at nothing.
+use Rattle.clause_search.proofs.SearchLemmas.{AreNews-one}
 use Rattle.std.proofs.Common.{lit<, ◌≡◌, ℕ, zero, suc, ◌+◌, ◌<◌, ◌≤◌, ◌&&◌, ◌⊎◌, inl, inr, Bool, true, false, not, nat_le}
 use Rattle.std.proofs.Common.{nat_lt, List, [], ◌∷◌, drop, get_or, length, length-append, All, Contains, Option, Some}
 use Rattle.std.proofs.Common.{None, IfSome, IsTrue, ◌==◌, cond, ap, arith, refl}
@@ -202,7 +203,7 @@ alone : (other : Literal) → Contains (no 5 ∷ []) other → (other ≡ no 5 �
 alone other (zero, within, is) differs = absurd (differs (sym is))
 alone other (suc k, within, is) differs = absurd (omega (arith, within))
 
-pub first-news : IsNews (bound_rows even_soon 3) 9 first_step
+pub first-news : IsNews (bound_rows even_soon 3) (bound_rows even_soon 3) 9 first_step
 first-news =
     record { follows = refl; empowering = (unit_false, no 5, unit_quiet, (0, lit< tt, refl), refl, alone) }
 
@@ -240,7 +241,7 @@ log-refutes = record {
   before = first_step ∷ [];
   hints = 32 ∷ 31 ∷ 30 ∷ 21 ∷ [];
   last = refl;
-  news = (first-news, tt);
+  news = AreNews-one (bound_rows even_soon 3) 9 first_step first-news;
   within = omega arith;
   tidy = All-from_recursion (IsTidy 9) log (first-tidy, (last-tidy, tt));
 }

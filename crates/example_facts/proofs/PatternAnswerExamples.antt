@@ -1,7 +1,7 @@
 -- Bounds below a score, steps that tell of patterns, patterns that are an answer, and hard constraints by themselves.
 use Rattle.std.proofs.Common.{◌≡◌, ◌≢◌, ℕ, zero, suc, ◌+◌, ◌-◌, ◌^◌, ◌<◌, ◌≤◌, Bool, true, false, not}
-use Rattle.std.proofs.Common.{◌&&◌, ◌||◌, ◌==◌, if◌then◌else◌, List, [], ◌∷◌, ◌++◌, get_or, length}
-use Rattle.std.proofs.Common.{Option, Some, None, Result, Ok, Err, IsTrue, subst, sym, refl, arith}
+use Rattle.std.proofs.Common.{◌&&◌, ◌||◌, ◌==◌, if◌then◌else◌, List, [], ◌∷◌, ◌++◌, get_or, length, map, take}
+use Rattle.std.proofs.Common.{Option, Some, None, Result, Ok, Err, IsTrue, ap, subst, sym, refl, inl, inr, arith, ◌∙◌}
 use Rattle.std.proofs.Common.{lit<, lit≤}
 use Rattle.std.specs.Prelude.{Contains, IsSomeAnd, nat_lt}
 use Rattle.std.specs.List.{All}
@@ -32,6 +32,8 @@ use Rattle.patterns.specs.Pattern.{IsPattern}
 use Rattle.refutation.specs.Following.{all_free, clause_row, judged, row_numbered}
 use Rattle.refutation.specs.Steps.{Step}
 use Rattle.refutation.specs.Steps.Step.{Clause}
+use Rattle.clause_search.specs.Kept.{MayKeep, step_at, steps_at}
+use Rattle.clause_search.specs.News.{row_of}
 use Rattle.moves.specs.Moves.{game}
 use Rattle.tally.specs.declared.weigh.Sums.{Sums}
 use Rattle.descent.specs.Score.{AreBoundsBelow}
@@ -41,6 +43,7 @@ use Rattle.pattern_search.specs.PatternLogs.{ArePatternNews, IsPatternNews, Tell
 use Rattle.pattern_search.specs.PatternRows.{is_pattern_row, pattern_rows}
 use Rattle.pattern_search.specs.PatternSets.{IsPatternSet, is_home, letter_at}
 use Rattle.pattern_search.specs.declared.found.PatternFound.TheVariants.{Patterns, Refuted, Spent}
+use Rattle.pattern_search.proofs.NewsLemmas.{ArePatternNews-none}
 use Rattle.example_facts.proofs.PatternSearchExamples.{spent-two}
 use Rattle.example_facts.proofs.StateExamples.{false_true, quiet_two, rows}
 
@@ -178,8 +181,24 @@ news-then_two = record {
   );
 }
 
+-- all steps before are kept
+abbrev keeps_both : ℕ → List ℕ
+keeps_both k = if nat_lt k 1 then [] else (if nat_lt k 2 then 0 ∷ [] else 0 ∷ 1 ∷ [])
+
+both_kept : (k : ℕ) → k < 2 → MayKeep 3 (keeps_both k ++ k ∷ []) (keeps_both (suc k))
+both_kept zero within = inl refl
+both_kept (suc zero) within = inl refl
+both_kept (suc (suc k)) within = absurd (omega (arith, within))
+
+both_news : (k : ℕ) → k < 2
+    → IsPatternNews 0 3 (four ++ map row_of (take k (one ∷ then_two ∷ [])))
+    (four ++ map row_of (steps_at (one ∷ then_two ∷ []) (keeps_both k))) (step_at (one ∷ then_two ∷ []) k)
+both_news zero within = news-one
+both_news (suc zero) within = news-then_two
+both_news (suc (suc k)) within = absurd (omega (arith, within))
+
 pub are_news : ArePatternNews 0 3 four four (one ∷ then_two ∷ [])
-are_news = (news-one, (news-then_two, tt))
+are_news = record { keeps = keeps_both; start = refl; next = both_kept; news = both_news }
 
 -- where a row asks for one literal, a step that says it isn't news: propagation finds it
 at_most_one : (v : Value) → (if is_false v then 0 else 1) ≤ 1
@@ -205,14 +224,23 @@ not_empowering patterns l k within there (values, m, quiet, contains, free, othe
     (subst (λ (m : Literal). value_of values m ≡ Free) (sym (only l m contains)) free)
 
 -- the first step again isn't news; nor is the second before the first, by whose row it follows
+first_kept : (news : ArePatternNews 0 3 four four (one ∷ one ∷ [])) → news.keeps 1 ≡ 0 ∷ []
+first_kept news = elim (news.next 0 (lit< tt)) [
+  | inl same ↦ same ∙ ap (λ (ks : List ℕ). ks ++ 0 ∷ []) news.start
+  | inr some ↦ absurd (omega (arith, some.0))
+]
+
 pub are_news-again : ArePatternNews 0 3 four four (one ∷ one ∷ []) → ⊥
-are_news-again news = not_empowering five (yes 1) 4 (lit< tt) refl news.1.0.empowering
+are_news-again news =
+    not_empowering five (yes 1) 4 (lit< tt) refl
+    (subst (λ (ks : List ℕ). IsEmpowering (four ++ map row_of (steps_at (one ∷ one ∷ []) ks)) (yes 1 ∷ []))
+    (first_kept news) (news.news 1 (lit< tt)).empowering)
 
 err_ok : {A B : Type 0} {x : A} {e : B} → ◌≡◌ {A = Result A B} (Err e) (Ok x) → ⊥
 err_ok is = cc
 
 pub are_news-crossed : ArePatternNews 0 3 four four (then_two ∷ one ∷ []) → ⊥
-are_news-crossed news = err_ok news.0.follows
+are_news-crossed news = err_ok (news.news 0 (lit< tt)).follows
 
 abbrev two : Instance
 two = record { n = 2; phased = false; constraints = [] }
@@ -229,12 +257,17 @@ abbrev not_five : Step
 not_five = Clause (no 5 ∷ []) (29 ∷ [])
 
 pub tell-none : TellOfPatterns two [] × TellOfPatterns away_first []
-tell-none = (tt, tt)
+tell-none = (ArePatternNews-none _ _ _ _, ArePatternNews-none _ _ _ _)
 
 -- a step that says not 5 follows, and isn't news
 pub tell-found : (judged (rows_of away_first) 8 not_five ≡ Ok (clause_row (no 5 ∷ [])))
     × (TellOfPatterns away_first (not_five ∷ []) → ⊥)
-tell-found = (refl, λ tell. not_empowering (pattern_rows away_first) (no 5) 8 (lit< tt) refl tell.0.empowering)
+tell-found = (
+  refl,
+  λ tell. not_empowering (pattern_rows away_first) (no 5) 8 (lit< tt) refl
+      (subst (λ (ks : List ℕ). IsEmpowering (pattern_rows away_first ++ map row_of (steps_at (not_five ∷ []) ks))
+      (no 5 ∷ [])) tell.start (tell.news 0 (lit< tt)).empowering),
+)
 
 -- ---- answers of patterns: AH and HA for two teams, so that 6 and 7 are true
 

@@ -1,5 +1,6 @@
 -- Two teams of which neither may have had more home games than the other behind slot 0: h(0,s) is 5 + s, h(1,s) 7 + s,
 -- so that 5 and 7 would have to be equal, and one of them alone is true.
+use Rattle.pattern_search.proofs.NewsLemmas.{ArePatternNews-one}
 use Rattle.std.proofs.Common.{◌≡◌, ◌≢◌, ℕ, zero, suc, ◌+◌, ◌<◌, ◌≤◌, Bool, true, false, List, [], ◌∷◌, get_or, length}
 use Rattle.std.proofs.Common.{◌-◌, ◌&&◌, ◌++◌, IsTrue, Some, drop, map, refl, ap, subst, arith, length-append, lit<}
 use Rattle.std.proofs.Common.{lit≤, sym, ◌^◌}
@@ -161,7 +162,7 @@ refutes-league = record {
   before = at_home ∷ [];
   hints = 31 ∷ 22 ∷ 29 ∷ [];
   last = refl;
-  news = (news-at_home, tt);
+  news = ArePatternNews-one _ _ _ _ at_home news-at_home;
   named = All-from_recursion (IsNamed (rows_of league ++ at_least 1 (yes 5 ∷ []) ∷ [])) (31 ∷ 22 ∷ 29 ∷ [])
       (refl, (refl, (refl, tt)));
   within = lit≤ tt;

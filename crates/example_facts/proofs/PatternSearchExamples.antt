@@ -1,5 +1,6 @@
 -- Two teams without constraints: h(0,s) is 5 + s, h(1,s) 7 + s. Their pattern rows ask that one team is at home in each
 -- slot, and that each team is once.
+use Rattle.pattern_search.proofs.NewsLemmas.{ArePatternNews-none}
 use Rattle.std.proofs.Common.{◌≡◌, ℕ, zero, suc, ◌+◌, ◌<◌, ◌≤◌, Bool, true, false, List, [], ◌∷◌, get_or, length}
 use Rattle.std.proofs.Common.{Some, refl, arith, lit<}
 use Rattle.std.proofs.lemmas.List.Elements.{All-nil, All-from_recursion}
@@ -95,7 +96,7 @@ both v w = (quiet_two (yes v) (yes w) refl, quiet_two (no v) (no w) refl)
 pub spent-two : IsPatternSpent two (Some 0) []
 spent-two = record {
   limited = refl;
-  news = tt;
+  news = ArePatternNews-none _ _ _ _;
   quiet = (
     all_free,
     All-from_recursion (IsQuietRow all_free) (pattern_rows two)

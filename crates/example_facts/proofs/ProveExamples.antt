@@ -33,7 +33,7 @@ use Rattle.command_prove.specs.Bound.{bound_verdict}
 use Rattle.bounds.specs.Proofs as bounds
 use Rattle.bounds.specs.declared.proved.Proved.TheVariants as proofs
 use Rattle.command_prove.proofs.ProveAnswers.{shown-refused}
-use Rattle.command_prove.specs.Prove.{IsShown, IsBettered, IsLeast, IsRejected, IsSpentBelow, IsWellFormedCase}
+use Rattle.command_prove.specs.Prove.{IsCertified, IsShown, IsBettered, IsLeast, IsRejected, IsSpentBelow, IsWellFormedCase}
 use Rattle.example_facts.proofs.LeastExamples.{away-one, away-zero, away_first, even-accepted, even_soon, least-four}
 use Rattle.example_facts.proofs.LeastExamples.{log, lower_bound, one-fit, one-in_order, one_first}
 use Rattle.example_facts.proofs.BetterExamples.{better-one}
@@ -216,21 +216,28 @@ bettered-nothing is =
 -- ---- a log that is spent: at a budget of 0 it has no step
 
 abbrev pub spent : Answer
-spent = record { status = Spent; text = codes "refutation 1\nend\n" }
+spent = record { status = Spent; text = codes "objective 4\nbound 0\nrefutation 1\nend\n" }
 
 spent-read : log_of (codes "refutation 1\nend\n") ≡ Ok []
 unfolding lines_from
 spent-read = refl
 
+-- that no schedule costs less than 0 needs no log
+floor-none : IsCertified even_soon 0 []
+floor-none = record { least = λ m accepted. omega arith; proves = refl; reads_back = refl }
+
 pub spent-none : IsSpentBelow even_soon (Some 0) ⊥ zero_first spent
 spent-none = record {
   steps = [];
+  bound = 0;
+  floor = [];
   accepted = even-accepted;
   some = omega arith;
   settled = inr settled-four;
   budget = refl;
   spent = spent-at_zero.spent;
   few = spent-at_zero.few;
+  certified = floor-none;
   status = refl;
   text = refl;
   reads_back = λ short. spent-read;

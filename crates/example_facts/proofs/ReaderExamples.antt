@@ -1,5 +1,5 @@
 -- What readers of words and of files answer, what is found of a league, and the rows that are kept of two teams.
-use Rattle.std.proofs.Common.{lit<, lit≤, ◌≡◌, ℕ, ◌≤◌, false, List, [], ◌∷◌, get_or, length, replicate, drop}
+use Rattle.std.proofs.Common.{lit<, lit≤, ◌≡◌, ℕ, ◌^◌, ◌<◌, ◌≤◌, false, List, [], ◌∷◌, get_or, length, replicate, drop}
 use Rattle.std.proofs.Common.{Some, None, Result, Ok, Err, IsTrue, codes, ap, refl, arith}
 use Rattle.std.specs.List.{All}
 use Rattle.std.proofs.lemmas.List.Elements.{All-from_recursion}
@@ -331,7 +331,12 @@ is_instance =
 
 -- 56 terms of the season, two of the softened row, and one of the objective's
 pub counted : IsCounted league 59
-counted = record { instance = is_instance; count = refl; few = lit≤ tt }
+counted = record {
+  instance = is_instance;
+  count = refl;
+  few = lit≤ tt;
+  penalties = All-from_recursion (λ (c : Constraint). c.penalty < 2 ^ 32) league.constraints (lit< tt, tt);
+}
 
 -- the season's terms alone aren't all, nor are those without the objective row's; and three teams have no season
 pub not_counted : (IsCounted league 56 → ⊥) × (IsCounted league 58 → ⊥)

@@ -1,5 +1,6 @@
 -- Two teams in no phases, of which team 1 had better not be at home in slot 0, at 4; and what was played of their
 -- season of two slots. x(0,1,s) is 1 + s, and x(1,0,s) 3 + s. `home` begins with team 1 at home, and `out` with team 0.
+use Rattle.clause_search.proofs.SearchLemmas.{AreNews-none}
 use Rattle.std.proofs.Common.{lit<, lit≤, ◌≡◌, ℕ, ◌+◌, ◌<◌, ◌≤◌, ◌==◌, ◌∙◌, Bool, true, false, ◌&&◌, nat_lt, cond, if◌then◌else◌}
 use Rattle.std.proofs.Common.{List, [], ◌∷◌, ◌++◌, length, drop, Option, Some, None, Result, Ok, codes, bytes_eq}
 use Rattle.std.proofs.Common.{length-append, ap, sym, refl, arith, IsTrue, ◌^◌}
@@ -151,7 +152,7 @@ refutes-crowded = record {
     before = [];
     hints = 29 ∷ 30 ∷ 6 ∷ [];
     last = refl;
-    news = tt;
+    news = AreNews-none _ _;
     within = lit≤ tt;
     tidy = All-from_recursion (IsTidy 8) log (tidy_step, tt);
   };

@@ -1,4 +1,5 @@
 -- What `resume` and `audit` answer of the files of ResumeExamples.
+use Rattle.clause_search.proofs.SearchLemmas.{AreNews-none}
 use Rattle.std.proofs.Common.{lit<, lit≤, ◌≡◌, ℕ, ◌∙◌}
 use Rattle.std.proofs.Common.{List, [], ◌∷◌, ◌++◌, Option, Some, None, Ok, codes}
 use Rattle.std.proofs.Common.{ap, sym, refl, arith, inl, inr}
@@ -190,7 +191,7 @@ kept_season-crowded old new is = none_crowded is.games is.season.resumes
 spent_first : IsSpentAt (resume_rows league (counts_of first) 0) 8 (Some 0) []
 spent_first = record {
   limited = refl;
-  spent = record { count = refl; news = tt; quiet = (all_free, quiet_pairs season_pairs) };
+  spent = record { count = refl; news = AreNews-none _ _; quiet = (all_free, quiet_pairs season_pairs) };
   few = lit< tt;
   tidy = All-nil (IsTidy 8);
 }

@@ -1,5 +1,8 @@
 -- Two clauses of two variables, 1 or 2, and 1 or not 2: what a log of one step makes of them; and the trail of four
 -- rows of which each forces something.
+use Rattle.clause_search.specs.Kept.{steps_at}
+use Rattle.clause_search.proofs.SearchLemmas.{AreNews-one, keeps-few}
+use Rattle.clause_search.proofs.TurnLemmas.{All-front}
 use Rattle.std.proofs.Common.{◌≡◌, ◌≢◌, ℕ, zero, suc, ◌+◌, ◌<◌, ◌≤◌, List, [], ◌∷◌, get_or, map, Some}
 use Rattle.std.proofs.Common.{◌++◌, None, Ok, Err, true, false, length, length-append, refl, ap, arith, lit<, lit≤}
 use Rattle.std.proofs.Common.{subst, sym, ◌^◌}
@@ -54,7 +57,7 @@ alone : (other : Literal) → Contains (yes 1 ∷ []) other → other ≢ yes 1 
 alone other (zero, within, is) differs = absurd (differs (sym is))
 alone other (suc k, within, is) differs = absurd (omega (arith, within))
 
-pub news-one : IsNews two 2 one
+pub news-one : IsNews two two 2 one
 news-one = record { follows = refl; empowering = (all_free, yes 1, two_quiet, (0, lit< tt, refl), refl, alone) }
 
 -- ---- behind it, with 1 true, nothing is forced: the log of this one step is spent at 1
@@ -75,7 +78,7 @@ quiet_unit = record { no_conflict = omega arith; none_forced = λ k d within fre
 pub spent-at_one : IsSpent 1 two 2 (one ∷ [])
 spent-at_one = record {
   count = refl;
-  news = (news-one, tt);
+  news = AreNews-one two 2 one news-one;
   quiet = (
     one_true,
     All-from_recursion (IsQuietRow one_true) (at_least 1 (yes 1 ∷ yes 2 ∷ []) ∷ at_least 1 (yes 1 ∷ no 2 ∷ []) ∷ clause_row (yes 1 ∷ []) ∷ [])
@@ -156,16 +159,24 @@ again values l quiet (zero, within, is) free =
     one_free values quiet one_is (rw one_is refl)
 again values l quiet (suc k, within, is) free = absurd (omega (arith, within))
 
+-- the second step of a log over few variables is empowering behind the first
+second_empowering : (rows : List Row) (vars : ℕ) (s t : Step) → AreNews rows vars (s ∷ t ∷ []) → vars ≤ 40
+    → IsEmpowering (rows ++ map row_of (s ∷ [])) (clause_of t)
+second_empowering rows vars s t news few =
+    subst (λ (ks : List ℕ). IsEmpowering (rows ++ map row_of (steps_at (s ∷ t ∷ []) ks)) (clause_of t))
+    (keeps-few rows vars (s ∷ t ∷ []) news few 0 (lit< tt) ∙ ap (λ (ks : List ℕ). ks ++ 0 ∷ []) news.start)
+    (news.news 1 (lit< tt)).empowering
+
 pub news-twice : AreNews two 2 (one ∷ one ∷ []) → ⊥
-news-twice (first_is, (empowering, others)) =
-    let (values, l, quiet, there, free, alone) = empowering.empowering in
+news-twice news =
+    let (values, l, quiet, there, free, alone) = second_empowering two 2 one one news (lit≤ tt) in
     again values l (quiet 2 (clause_row []) (lit< tt)) there free
 
 -- what doesn't follow is no news: where 2 is false, row 1 asks for 1, and row 2 is met
 err_ok : {r : Row} → Err NoConflict ≡ Ok r → ⊥
 err_ok is = cc
 
-pub news-none : IsNews two 2 (Clause (yes 2 ∷ []) (1 ∷ 2 ∷ [])) → ⊥
+pub news-none : IsNews two two 2 (Clause (yes 2 ∷ []) (1 ∷ 2 ∷ [])) → ⊥
 news-none news = err_ok news.follows
 
 -- ---- tidy steps: each variable once, each a known one, and at most one more hint than there are variables
@@ -252,7 +263,8 @@ unspent = (λ is. none_some is.limited, λ rows step is. omega (arith, is.few))
 pub unspent-steps : (IsSpentAt (at_least 1 [] ∷ []) 2 (Some 0) [] → ⊥)
     × (IsSpentAt two 2 (Some 1) (Clause (yes 1 ∷ yes 1 ∷ []) (1 ∷ 2 ∷ []) ∷ []) → ⊥)
 unspent-steps = (
-  λ is. omega (arith, (is.spent.quiet.1 0 (clause_row []) (lit< tt)).no_conflict),
+  λ is. omega (arith, (All-front (IsQuietRow is.spent.quiet.0) (at_least 1 [] ∷ []) _ is.spent.quiet.1 0 (clause_row [])
+      (lit< tt)).no_conflict),
   λ is. (is.tidy 0 one (lit< tt)).variables 0 1 (yes 1) (lit< tt) (lit< tt) refl,
 )
 
@@ -288,7 +300,8 @@ refutes-closed = record {
   before = one ∷ [];
   hints = 5 ∷ 3 ∷ 4 ∷ [];
   last = refl;
-  news = (record { follows = refl; empowering = (all_free, yes 1, closed_quiet, (0, lit< tt, refl), refl, alone) }, tt);
+  news = AreNews-one closed 3 one
+      (record { follows = refl; empowering = (all_free, yes 1, closed_quiet, (0, lit< tt, refl), refl, alone) });
   within = lit≤ tt;
   tidy = All-from_recursion (IsTidy 3) (one ∷ falsum ∷ []) (
     tidy_one 3 (lit≤ tt),
@@ -322,7 +335,7 @@ twice_before (a ∷ b ∷ []) hints is news =
     let both : AreNews closed 3 (one ∷ one ∷ []) =
     subst (λ (s : Step). AreNews closed 3 (one ∷ s ∷ [])) (sym second_is)
     (subst (λ (s : Step). AreNews closed 3 (s ∷ b ∷ [])) (sym first_is) news) in
-    let (values, l, quiet, there, free, alone) = both.1.0.empowering in
+    let (values, l, quiet, there, free, alone) = second_empowering closed 3 one one both (lit≤ tt) in
     again values l (quiet 4 (clause_row []) (lit< tt)) there free
 twice_before (a ∷ b ∷ c ∷ before) hints is news =
     omega (arith, ap length is, length-append before (Clause [] hints ∷ []))

@@ -1,6 +1,8 @@
 -- Two teams in no phases. x(0,1,s) is 1 + s, x(1,0,s) 3 + s, h(0,s) 5 + s, and h(1,s) 7 + s. They have two seasons: in
 -- `home` team 1 is at home in slot 0 and team 0 in slot 1, and in `out` it is the other way round.
 use Prim.Native.String.{String}
+use Rattle.clause_search.proofs.TurnLemmas.{All-front}
+use Rattle.clause_search.proofs.SearchLemmas.{AreNews-none}
 use Rattle.std.proofs.Common.{lit<, lit≤, ◌≡◌, ℕ, zero, suc, ◌+◌, ◌<◌, ◌≤◌, Bool, true, false}
 use Rattle.std.proofs.Common.{if◌then◌else◌, List, [], ◌∷◌, ◌++◌, map, drop, length, get_or, Option, Some}
 use Rattle.std.proofs.Common.{codes, refl, arith, IsTrue}
@@ -273,7 +275,7 @@ writable-none = record {
 pub spent-one_there : IsSpentOn one_there (Some 0) []
 spent-one_there = record {
   limited = refl;
-  spent = record { count = refl; news = tt; quiet = (all_free, quiet_pairs (season_pairs ++ one_of 2 4)) };
+  spent = record { count = refl; news = AreNews-none _ _; quiet = (all_free, quiet_pairs (season_pairs ++ one_of 2 4)) };
   few = lit< tt;
   tidy = All-nil (IsTidy 8);
   writable = writable-none;
@@ -305,7 +307,8 @@ never_quiet values homes once =
 
 pub spent-homes : (limit : Option ℕ) → IsSpentOn homes limit [] → ⊥
 spent-homes limit is =
-    let quiet : IsQuiet is.spent.quiet.0 (rows_of homes) = is.spent.quiet.1 in
+    let quiet : IsQuiet is.spent.quiet.0 (rows_of homes) =
+    All-front (IsQuietRow is.spent.quiet.0) (rows_of homes) _ is.spent.quiet.1 in
     never_quiet is.spent.quiet.0 (quiet 28 (at_least 0 []) (lit< tt)) (quiet 25 (at_least 0 []) (lit< tt))
 
 -- no log is spent at another limit, or one of as many steps as 3 to the 8

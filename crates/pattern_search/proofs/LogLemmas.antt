@@ -1,6 +1,6 @@
 -- What the search's logs over lowered pattern rows say of a league.
 use Rattle.std.proofs.Common.{◌≡◌, ℕ, ◌+◌, ◌-◌, ◌*◌, ◌^◌, ◌<◌, ◌≤◌, Bool, true, false, cond, if◌then◌else◌}
-use Rattle.std.proofs.Common.{List, [], ◌∷◌, ◌++◌, length, map, get_or, Option, Some, None, Result, Ok}
+use Rattle.std.proofs.Common.{List, [], ◌∷◌, ◌++◌, length, map, take, get_or, Option, Some, None, Result, Ok}
 use Rattle.std.proofs.Common.{refl, arith, ap, sym, subst, ◌∙◌, suc, zero, zero-add}
 use Rattle.std.specs.Prelude.{IfSome, nat_le, slice_index}
 use Rattle.std.specs.List.{All, filter_map}
@@ -22,16 +22,18 @@ use Rattle.refutation.specs.Verdict.{ends_empty, fault_or, first_fault, verdict_
 use Rattle.refutation.specs.declared.verdict.Cause.{Cause}
 use Rattle.refutation.specs.declared.verdict.Verdict.TheVariants.{Accepted}
 use Rattle.clause_search.specs.Answers.{IsSpentAt, Refutes}
+use Rattle.clause_search.specs.Kept.{step_at, steps_at}
 use Rattle.clause_search.specs.News.{AreNews, IsTidy, row_of}
-use Rattle.clause_search.proofs.SearchLemmas.{ends_empty-push}
+use Rattle.clause_search.proofs.SearchLemmas.{DoFollow, ends_empty-push, first_fault-none, follow-first, follow-rest}
+use Rattle.clause_search.proofs.SearchLemmas.{keeps-within, news-clauses}
 use Rattle.decoding.proofs.SeasonLemmas.{accepted_logs_exclude}
-use Rattle.pattern_search.specs.PatternLogs.{ArePatternNews, IsPatternSpent, RefutesPatterns}
+use Rattle.pattern_search.specs.PatternLogs.{ArePatternNews, IsPatternNews, IsPatternSpent, RefutesPatterns}
 use Rattle.pattern_search.specs.PatternLogs.{TellOfPatterns}
 use Rattle.pattern_search.specs.PatternRows.{pattern_rows, pattern_var_count}
 use Rattle.pattern_search.specs.Raised.{IsPicked, number_of, raised_row, raised_step, raised_steps}
 use Rattle.pattern_search.specs.Raised.{renumbered}
-use Rattle.pattern_search.proofs.NewsLemmas.{HasSmallHints, hints-named, length-raised, news-clauses, news-raised}
-use Rattle.pattern_search.proofs.NewsLemmas.{numbering-steps, raised_steps-push, rows-raised, step-follows, steps-tidy}
+use Rattle.pattern_search.proofs.NewsLemmas.{HasSmallHints, hints-named, length-raised, news-raised, numbering-steps}
+use Rattle.pattern_search.proofs.NewsLemmas.{patterns-kept, raised_steps-push, step-follows, steps-tidy}
 use Rattle.pattern_search.proofs.NumberLemmas.{IsNumbering}
 use Rattle.pattern_search.proofs.PickLemmas.{picked_raised}
 use Rattle.pattern_search.proofs.RaiseLemmas.{quiet-raised, raised_values, raises_values}
@@ -55,18 +57,19 @@ went_on : (fault : Option Cause) (row : Row) (n : ℕ) (later : Row → Option (
 went_on None row n later is = refl
 went_on (Some cause) row n later is = absurd (cc)
 
-last-follows : (rows : List Row) (vars n : ℕ) (steps : List Step) (hints : List ℕ) → AreNews rows vars steps
+last-follows : (rows : List Row) (vars n : ℕ) (steps : List Step) (hints : List ℕ) → DoFollow rows vars steps
     → first_fault rows vars n (steps ++ Clause [] hints ∷ []) ≡ None
     → judged (rows ++ map row_of steps) vars (Clause [] hints) ≡ Ok (clause_row [])
-last-follows rows vars n [] hints news none =
+last-follows rows vars n [] hints follow none =
     subst (λ (rs : List Row). judged rs vars (Clause [] hints) ≡ Ok (clause_row [])) (sym (append-nil rows))
     (went_on (fault_of rows vars [] hints) (clause_row []) (n + 1) (λ row. None) none)
-last-follows rows vars n (step ∷ steps) hints news none =
+last-follows rows vars n (step ∷ steps) hints follow none =
     subst (λ (rs : List Row). judged rs vars (Clause [] hints) ≡ Ok (clause_row []))
     (append_assoc rows (row_of step ∷ []) (map row_of steps))
-    (last-follows (rows ++ row_of step ∷ []) vars (n + 1) steps hints news.1
+    (last-follows (rows ++ row_of step ∷ []) vars (n + 1) steps hints (follow-rest rows vars step steps follow)
     (subst (λ (r : Result Row Cause). fault_or (n + 1) r
-    (λ row. first_fault (rows ++ row ∷ []) vars (n + 1) (steps ++ Clause [] hints ∷ [])) ≡ None) news.0.follows none))
+    (λ row. first_fault (rows ++ row ∷ []) vars (n + 1) (steps ++ Clause [] hints ∷ [])) ≡ None)
+    (follow-first rows vars step steps follow) none))
 
 no_fault : (fault : Option (ℕ × Cause)) (ends : Bool) (n : ℕ) → verdict_by fault ends n ≡ Accepted → fault ≡ None
 no_fault None ends n is = refl
@@ -74,27 +77,14 @@ no_fault (Some (step, cause)) ends n is = absurd (cc)
 
 -- ---- and of one that will be
 
-fault-none : (games vars : ℕ) (rows patterns : List Row) (n : ℕ) (steps : List Step) (hints : List ℕ)
-    → ArePatternNews games vars rows patterns steps
-    → judged (rows ++ map row_of steps) vars (Clause [] hints) ≡ Ok (clause_row [])
-    → first_fault rows vars n (steps ++ Clause [] hints ∷ []) ≡ None
-fault-none games vars rows patterns n [] hints news last =
-    ap (λ (r : Result Row Cause). fault_or (n + 1) r (λ row. None))
-    (ap (λ (rs : List Row). judged rs vars (Clause [] hints)) (sym (append-nil rows)) ∙ last)
-fault-none games vars rows patterns n (step ∷ steps) hints news last =
-    ap (λ (r : Result Row Cause). fault_or (n + 1) r
-    (λ row. first_fault (rows ++ row ∷ []) vars (n + 1) (steps ++ Clause [] hints ∷ []))) news.0.follows
-    ∙ fault-none games vars (rows ++ row_of step ∷ []) (patterns ++ row_of step ∷ []) (n + 1) steps hints news.1
-    (ap (λ (rs : List Row). judged rs vars (Clause [] hints)) (append_assoc rows (row_of step ∷ []) (map row_of steps))
-    ∙ last)
-
 accepted_by : (games vars : ℕ) (rows patterns : List Row) (steps : List Step) (hints : List ℕ)
     → ArePatternNews games vars rows patterns steps
     → judged (rows ++ map row_of steps) vars (Clause [] hints) ≡ Ok (clause_row [])
     → verdict_of rows vars (steps ++ Clause [] hints ∷ []) ≡ Accepted
 accepted_by games vars rows patterns steps hints news last =
     ap (λ (fault : Option (ℕ × Cause)). verdict_by fault (ends_empty (steps ++ Clause [] hints ∷ []))
-    (length (steps ++ Clause [] hints ∷ []))) (fault-none games vars rows patterns 0 steps hints news last)
+    (length (steps ++ Clause [] hints ∷ [])))
+    (first_fault-none rows vars 0 steps hints (λ k within. (news.news k within).follows) last)
     ∙ ap (λ (ends : Bool). verdict_by None ends (length (steps ++ Clause [] hints ∷ []))) (ends_empty-push steps hints)
 
 -- ---- the numbering of a league's pattern rows
@@ -155,16 +145,34 @@ module _ (league : Instance) (low : List Row) (numbers : List ℕ)
   numbered : IsNumbering (x_count league.n) numbers (length (rows_of league)) 0 low (rows_of league)
   numbered = numbering (x_count league.n) (rows_of league) low numbers picked
 
-  tells : (steps : List Step) → AreNews low (var_count league - x_count league.n) steps
-      → All (IsTidy (var_count league - x_count league.n)) steps → TellOfPatterns league (lifted steps)
-  tells steps news tidy =
-      subst (λ (v : ℕ). ArePatternNews (x_count league.n) v (rows_of league) (pattern_rows league) (lifted steps))
+  inside : (steps : List Step) (k : ℕ) → k < length (lifted steps) → k < length steps
+  inside steps k within =
+      omega (arith, within, length-raised (x_count league.n) numbers (length (rows_of league)) steps 0)
+
+  news_lifted : (steps : List Step) (news : AreNews low (var_count league - x_count league.n) steps)
+      → All (IsTidy (var_count league - x_count league.n)) steps → (k : ℕ) → k < length (lifted steps)
+      → IsPatternNews (x_count league.n) (var_count league) (rows_of league ++ map row_of (take k (lifted steps)))
+      (pattern_rows league ++ map row_of (steps_at (lifted steps) (news.keeps k))) (step_at (lifted steps) k)
+  news_lifted steps news tidy k within =
+      subst (λ (v : ℕ). IsPatternNews (x_count league.n) v (rows_of league ++ map row_of (take k (lifted steps)))
+      (pattern_rows league ++ map row_of (steps_at (lifted steps) (news.keeps k))) (step_at (lifted steps) k))
       (vars-more league)
-      (subst (λ (rs : List Row). ArePatternNews (x_count league.n)
-      (var_count league - x_count league.n + x_count league.n) (rows_of league) rs (lifted steps))
+      (subst (λ (rs : List Row). IsPatternNews (x_count league.n)
+      (var_count league - x_count league.n + x_count league.n)
+      (rows_of league ++ map row_of (take k (lifted steps)))
+      (rs ++ map row_of (steps_at (lifted steps) (news.keeps k))) (step_at (lifted steps) k))
       (picked_raised (x_count league.n) (rows_of league) low numbers picked)
-      (news-raised (x_count league.n) numbers (length (rows_of league)) (var_count league - x_count league.n) steps 0
-      low (rows_of league) numbered news tidy))
+      (news-raised (x_count league.n) numbers (length (rows_of league)) (var_count league - x_count league.n) steps
+      low (rows_of league) numbered news tidy k (inside steps k within)))
+
+  abbrev tells : (steps : List Step) → AreNews low (var_count league - x_count league.n) steps
+      → All (IsTidy (var_count league - x_count league.n)) steps → TellOfPatterns league (lifted steps)
+  tells steps news tidy = record {
+    keeps = news.keeps;
+    start = news.start;
+    next = λ k within. news.next k (inside steps k within);
+    news = news_lifted steps news tidy;
+  }
 
   lifted-tidy : (steps : List Step) → All (IsTidy (var_count league - x_count league.n)) steps
       → All HasSmallHints (lifted steps) → All (IsTidy (var_count league)) (lifted steps)
@@ -184,22 +192,26 @@ module _ (league : Instance) (low : List Row) (numbers : List ℕ)
       raised_values (x_count league.n) is.spent.quiet.0,
       subst (λ (rs : List Row). IsQuiet (raised_values (x_count league.n) is.spent.quiet.0) rs) rows_are
           (quiet-raised (x_count league.n) (raised_values (x_count league.n) is.spent.quiet.0) is.spent.quiet.0
-          (raises_values (x_count league.n) is.spent.quiet.0) (low ++ map row_of steps) is.spent.quiet.1),
+          (raises_values (x_count league.n) is.spent.quiet.0)
+          (low ++ map row_of (steps_at steps (is.spent.news.keeps (length steps)))) is.spent.quiet.1),
     );
     few = subst (λ (v : ℕ). length (lifted steps) < 3 ^ v) (vars-are league)
         (subst (λ (n : ℕ). n < 3 ^ (var_count league - x_count league.n))
         (sym (length-raised (x_count league.n) numbers (length (rows_of league)) steps 0)) is.few);
     tidy = lifted-tidy steps is.tidy small;
   } where
-    rows_are : map (raised_row (x_count league.n)) (low ++ map row_of steps)
-        ≡ pattern_rows league ++ map row_of (lifted steps)
+    rows_are : map (raised_row (x_count league.n))
+        (low ++ map row_of (steps_at steps (is.spent.news.keeps (length steps))))
+        ≡ pattern_rows league
+        ++ map row_of (steps_at (lifted steps) (is.spent.news.keeps (length (lifted steps))))
     rows_are =
-        map-append (raised_row (x_count league.n)) low (map row_of steps)
-        ∙ ap (λ (rs : List Row). rs ++ map (raised_row (x_count league.n)) (map row_of steps))
+        patterns-kept (x_count league.n) numbers (length (rows_of league)) (var_count league - x_count league.n) low steps
+        (is.spent.news.keeps (length steps))
+        (keeps-within low (var_count league - x_count league.n) steps is.spent.news (length steps) (omega arith)) is.tidy
+        ∙ ap (λ (rs : List Row). rs ++ map row_of (steps_at (lifted steps) (is.spent.news.keeps (length steps))))
         (picked_raised (x_count league.n) (rows_of league) low numbers picked)
-        ∙ ap (λ (rs : List Row). pattern_rows league ++ rs)
-        (rows-raised (x_count league.n) numbers (length (rows_of league)) (var_count league - x_count league.n) steps 0
-        is.tidy)
+        ∙ ap (λ (n : ℕ). pattern_rows league ++ map row_of (steps_at (lifted steps) (is.spent.news.keeps n)))
+        (sym (length-raised (x_count league.n) numbers (length (rows_of league)) steps 0))
 
   pub refuted : (limit : Option ℕ) (steps : List Step) → IsInstance league
       → Refutes low (var_count league - x_count league.n) limit steps → All HasSmallHints (lifted steps)
@@ -256,7 +268,8 @@ module _ (league : Instance) (low : List Row) (numbers : List ℕ)
             (step-follows (x_count league.n) numbers (length (rows_of league)) (length is.before)
             (var_count league - x_count league.n) (low ++ map row_of is.before)
             (rows_of league ++ map row_of (lifted is.before)) (Clause [] is.hints) behind last_tidy refl
-            (last-follows low (var_count league - x_count league.n) 0 is.before is.hints is.news
+            (last-follows low (var_count league - x_count league.n) 0 is.before is.hints
+            (λ k within. (is.news.news k within).follows)
             (no_fault (first_fault low (var_count league - x_count league.n) 0 (is.before ++ Clause [] is.hints ∷ []))
             (ends_empty (is.before ++ Clause [] is.hints ∷ [])) (length (is.before ++ Clause [] is.hints ∷ []))
             (subst (λ (ss : List Step). verdict_of low (var_count league - x_count league.n) ss ≡ Accepted) is.last

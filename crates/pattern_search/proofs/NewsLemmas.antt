@@ -1,22 +1,24 @@
 -- A log over lowered rows, raised, is one over all rows.
-use Rattle.std.proofs.Common.{◌≡◌, ℕ, zero, suc, ◌+◌, ◌^◌, ◌<◌, ◌≤◌, nat_lt, ◌&&◌, Bool, true, false, cond, zero-add}
+use Rattle.std.proofs.Common.{◌≡◌, ℕ, zero, suc, ◌+◌, ◌-◌, ◌^◌, ◌<◌, ◌≤◌, nat_lt, ◌&&◌, Bool, true, false, cond, zero-add}
 use Rattle.std.proofs.Common.{List, [], ◌∷◌, ◌++◌, length, map, get_or, take, Option, Some, None, Ok}
-use Rattle.std.proofs.Common.{refl, arith, ap, sym, subst, ◌∙◌}
+use Rattle.std.proofs.Common.{refl, inl, arith, ap, sym, subst, ◌∙◌}
 use Rattle.std.specs.Prelude.{nat_le, IsSomeAnd}
 use Rattle.std.specs.Option.{option_map_or}
 use Rattle.std.specs.List.{All, cons_option, filter_map}
 use Rattle.std.proofs.lemmas.Bool.{and_parts, leb-true, ltb-true}
 use Rattle.std.proofs.lemmas.List.{append-nil, append_assoc, length-take-le, map-append, take_more}
-use Rattle.std.proofs.lemmas.List.Elements.{All-cons, All-head, All-map, All-nil, All-push, All-tail, filter_map-append}
+use Rattle.std.proofs.lemmas.List.Elements.{All-cons, All-from_get_or, All-head, All-map, All-nil, All-push, All-tail}
+use Rattle.std.proofs.lemmas.List.Elements.{All-take, All-weaker, filter_map-append}
 use Rattle.std.proofs.lemmas.Option.{slice_get-get_or}
 use Rattle.rows.specs.Literals.{Literal}
-use Rattle.rows.specs.Partials.{IsEmpowering}
 use Rattle.rows.specs.Rows.{Row}
 use Rattle.refutation.specs.Following.{judged, no_demand, row_numbered}
 use Rattle.refutation.specs.Steps.{Step, clause_at, clause_of, hints_at, hints_of, is_linear}
 use Rattle.refutation.specs.Steps.Step.{Clause, Linear}
-use Rattle.clause_search.specs.News.{AreNews, IsTidy, row_of}
-use Rattle.pattern_search.specs.PatternLogs.{ArePatternNews}
+use Rattle.clause_search.specs.Kept.{MayKeep, step_at, steps_at}
+use Rattle.clause_search.specs.News.{AreNews, IsNews, IsTidy, row_of}
+use Rattle.clause_search.proofs.SearchLemmas.{keeps-within, not_linear}
+use Rattle.pattern_search.specs.PatternLogs.{ArePatternNews, IsPatternNews}
 use Rattle.pattern_search.specs.PatternRows.{is_pattern_row}
 use Rattle.pattern_search.specs.Raised.{IsFromOne, number_of, raised_literal, raised_row, raised_step, raised_steps}
 use Rattle.pattern_search.specs.Raised.{renumbered}
@@ -26,26 +28,45 @@ use Rattle.pattern_search.proofs.RaiseLemmas.{pattern_row-raised}
 
 -- ---- steps that are news are clauses
 
-none_of_nothing : (rows : List Row) → IsEmpowering rows [] → ⊥
-none_of_nothing rows (values, l, quiet, among, free, others) = omega (arith, among.1)
-
-not_linear : (rows : List Row) (step : Step) → IsEmpowering rows (clause_of step) → is_linear step ≡ false
-not_linear rows (Clause clause hints) empowering = refl
-not_linear rows (Linear parts divisor) empowering = absurd (none_of_nothing rows empowering)
-
-pub news-clauses : (rows : List Row) (vars : ℕ) (steps : List Step) → AreNews rows vars steps
-    → All (λ step. is_linear step ≡ false) steps
-news-clauses rows vars [] news = All-nil (λ step. is_linear step ≡ false)
-news-clauses rows vars (step ∷ steps) news =
-    All-cons (λ s. is_linear s ≡ false) step steps (not_linear rows step news.0.empowering)
-    (news-clauses (rows ++ row_of step ∷ []) vars steps news.1)
-
 pub pattern_news-clauses : (games vars : ℕ) (rows patterns : List Row) (steps : List Step)
     → ArePatternNews games vars rows patterns steps → All (λ step. is_linear step ≡ false) steps
-pattern_news-clauses games vars rows patterns [] news = All-nil (λ step. is_linear step ≡ false)
-pattern_news-clauses games vars rows patterns (step ∷ steps) news =
-    All-cons (λ s. is_linear s ≡ false) step steps (not_linear patterns step news.0.empowering)
-    (pattern_news-clauses games vars (rows ++ row_of step ∷ []) (patterns ++ row_of step ∷ []) steps news.1)
+pattern_news-clauses games vars rows patterns steps news =
+    All-from_get_or (λ step. is_linear step ≡ false) steps (Clause [] [])
+    (λ k within. not_linear (patterns ++ map row_of (steps_at steps (news.keeps k))) (step_at steps k)
+    (news.news k within).empowering)
+
+-- ---- logs of no step and of one
+
+abbrev pub ArePatternNews-none : (games vars : ℕ) (rows patterns : List Row) → ArePatternNews games vars rows patterns []
+ArePatternNews-none games vars rows patterns = record {
+  keeps = λ k. [];
+  start = refl;
+  next = λ k within. absurd (omega (arith, within));
+  news = λ k within. absurd (omega (arith, within));
+}
+
+pub one_kept : (vars k : ℕ) → k < 1
+    → MayKeep vars (cond (nat_lt k 1) [] (0 ∷ []) ++ k ∷ []) (cond (nat_lt (suc k) 1) [] (0 ∷ []))
+one_kept vars zero within = inl refl
+one_kept vars (suc k) within = absurd (omega (arith, within))
+
+pub one_news : (games vars : ℕ) (rows patterns : List Row) (s : Step) → IsPatternNews games vars rows patterns s
+    → (k : ℕ) → k < 1
+    → IsPatternNews games vars (rows ++ map row_of (take k (s ∷ [])))
+    (patterns ++ map row_of (steps_at (s ∷ []) (cond (nat_lt k 1) [] (0 ∷ [])))) (step_at (s ∷ []) k)
+one_news games vars rows patterns s is zero within =
+    subst (λ (rs : List Row). IsPatternNews games vars rs (patterns ++ []) s) (sym (append-nil rows))
+    (subst (λ (rs : List Row). IsPatternNews games vars rows rs s) (sym (append-nil patterns)) is)
+one_news games vars rows patterns s is (suc k) within = absurd (omega (arith, within))
+
+abbrev pub ArePatternNews-one : (games vars : ℕ) (rows patterns : List Row) (s : Step)
+    → IsPatternNews games vars rows patterns s → ArePatternNews games vars rows patterns (s ∷ [])
+ArePatternNews-one games vars rows patterns s is = record {
+  keeps = λ k. cond (nat_lt k 1) [] (0 ∷ []);
+  start = refl;
+  next = one_kept (vars - games);
+  news = one_news games vars rows patterns s is;
+}
 
 -- ---- hints
 
@@ -148,37 +169,49 @@ step-follows x numbers all before vars low whole (Clause clause hints) is tidy k
     judged-raised x numbers all before vars low whole clause hints is tidy.variables tidy.known follows
 step-follows x numbers all before vars low whole (Linear parts divisor) is tidy kind follows = absurd (cc)
 
--- ---- a log
+-- ---- steps of a log
 
-rows-push : (x : ℕ) (numbers : List ℕ) (all before vars : ℕ) (low : List Row) (step : Step) → IsTidy vars step
-    → map (raised_row x) (low ++ row_of step ∷ [])
-    ≡ map (raised_row x) low ++ row_of (raised_step x numbers all before step) ∷ []
-rows-push x numbers all before vars low step tidy =
-    map-append (raised_row x) low (row_of step ∷ [])
-    ∙ ap (λ (row : Row). map (raised_row x) low ++ row ∷ [])
-    (sym (row_of-raised x numbers all before vars step tidy))
+raised-at : (x : ℕ) (numbers : List ℕ) (all : ℕ) (steps : List Step) (before k : ℕ) → k < length steps
+    → step_at (raised_steps x numbers all before steps) k
+    ≡ raised_step x numbers all (before + k) (step_at steps k)
+raised-at x numbers all [] before k within = absurd (omega (arith, within))
+raised-at x numbers all (step ∷ steps) before zero within =
+    let same : before ≡ before + 0 = omega arith in
+    ap (λ (n : ℕ). raised_step x numbers all n step) same
+raised-at x numbers all (step ∷ steps) before (suc k) within =
+    let same : before + 1 + k ≡ before + suc k = omega arith in
+    raised-at x numbers all steps (before + 1) k (omega (arith, within))
+    ∙ ap (λ (n : ℕ). raised_step x numbers all n (step_at steps k)) same
 
-pub news-raised : (x : ℕ) (numbers : List ℕ) (all vars : ℕ) (steps : List Step) (before : ℕ) (low whole : List Row)
-    → IsNumbering x numbers all before low whole → AreNews low vars steps → All (IsTidy vars) steps
-    → ArePatternNews x (vars + x) whole (map (raised_row x) low) (raised_steps x numbers all before steps)
-news-raised x numbers all vars [] before low whole is news tidy = tt
-news-raised x numbers all vars (step ∷ steps) before low whole is news tidy =
-    let tidy_one : IsTidy vars step = All-head (IsTidy vars) step steps tidy in (
-      record {
-        follows = step-follows x numbers all before vars low whole step is tidy_one
-            (not_linear low step news.0.empowering) news.0.follows;
-        named = hints-named x numbers all before low whole is (hints_of step);
-        empowering = empowering-raised x low (clause_of step) news.0.empowering;
-      },
-      subst (λ (rows : List Row). ArePatternNews x (vars + x)
-          (whole ++ row_of (raised_step x numbers all before step) ∷ []) rows
-          (raised_steps x numbers all (before + 1) steps))
-          (rows-push x numbers all before vars low step tidy_one)
-          (news-raised x numbers all vars steps (before + 1) (low ++ row_of step ∷ [])
-          (whole ++ row_of (raised_step x numbers all before step) ∷ [])
-          (numbering-step x numbers all before vars low whole step is tidy_one) news.1
-          (All-tail (IsTidy vars) step steps tidy)),
-    )
+raised-take : (x : ℕ) (numbers : List ℕ) (all : ℕ) (steps : List Step) (before k : ℕ)
+    → take k (raised_steps x numbers all before steps) ≡ raised_steps x numbers all before (take k steps)
+raised-take x numbers all [] before zero = refl
+raised-take x numbers all [] before (suc k) = refl
+raised-take x numbers all (step ∷ steps) before zero = refl
+raised-take x numbers all (step ∷ steps) before (suc k) =
+    ap (λ (ss : List Step). raised_step x numbers all before step ∷ ss) (raised-take x numbers all steps (before + 1) k)
+
+-- the rows of those that are kept
+rows-kept : (x : ℕ) (numbers : List ℕ) (all vars : ℕ) (steps : List Step) (places : List ℕ)
+    → All (λ place. place < length steps) places → All (IsTidy vars) steps
+    → map (raised_row x) (map row_of (steps_at steps places))
+    ≡ map row_of (steps_at (raised_steps x numbers all 0 steps) places)
+rows-kept x numbers all vars steps [] within tidy = refl
+rows-kept x numbers all vars steps (place ∷ places) within tidy =
+    let there : place < length steps = All-head (λ p. p < length steps) place places within in
+    ap (λ (row : Row). row ∷ map (raised_row x) (map row_of (steps_at steps places)))
+    (sym (ap row_of (raised-at x numbers all steps 0 place there)
+    ∙ row_of-raised x numbers all (0 + place) vars (step_at steps place) (tidy place (Clause [] []) there)))
+    ∙ ap (λ (rows : List Row). row_of (step_at (raised_steps x numbers all 0 steps) place) ∷ rows)
+    (rows-kept x numbers all vars steps places (All-tail (λ p. p < length steps) place places within) tidy)
+
+pub patterns-kept : (x : ℕ) (numbers : List ℕ) (all vars : ℕ) (low : List Row) (steps : List Step) (places : List ℕ)
+    → All (λ place. place < length steps) places → All (IsTidy vars) steps
+    → map (raised_row x) (low ++ map row_of (steps_at steps places))
+    ≡ map (raised_row x) low ++ map row_of (steps_at (raised_steps x numbers all 0 steps) places)
+patterns-kept x numbers all vars low steps places within tidy =
+    map-append (raised_row x) low (map row_of (steps_at steps places))
+    ∙ ap (λ (rows : List Row). map (raised_row x) low ++ rows) (rows-kept x numbers all vars steps places within tidy)
 
 -- behind the steps
 pub numbering-steps : (x : ℕ) (numbers : List ℕ) (all vars : ℕ) (steps : List Step) (before : ℕ) (low whole : List Row)
@@ -220,20 +253,59 @@ steps-tidy x numbers all vars (step ∷ steps) before low whole is tidy small =
     (All-tail HasSmallHints (raised_step x numbers all before step) (raised_steps x numbers all (before + 1) steps)
     small))
 
--- the rows of the steps
-pub rows-raised : (x : ℕ) (numbers : List ℕ) (all vars : ℕ) (steps : List Step) (before : ℕ) → All (IsTidy vars) steps
-    → map (raised_row x) (map row_of steps) ≡ map row_of (raised_steps x numbers all before steps)
-rows-raised x numbers all vars [] before tidy = refl
-rows-raised x numbers all vars (step ∷ steps) before tidy =
-    ap (λ (row : Row). row ∷ map (raised_row x) (map row_of steps))
-    (sym (row_of-raised x numbers all before vars step (All-head (IsTidy vars) step steps tidy)))
-    ∙ ap (λ (rows : List Row). row_of (raised_step x numbers all before step) ∷ rows)
-    (rows-raised x numbers all vars steps (before + 1) (All-tail (IsTidy vars) step steps tidy))
-
 pub length-raised : (x : ℕ) (numbers : List ℕ) (all : ℕ) (steps : List Step) (before : ℕ)
     → length (raised_steps x numbers all before steps) ≡ length steps
 length-raised x numbers all [] before = refl
 length-raised x numbers all (step ∷ steps) before = ap suc (length-raised x numbers all steps (before + 1))
+
+-- ---- a log that is news
+
+pattern_news-same : (x vars : ℕ) (rows rows' patterns patterns' : List Row) (step step' : Step) → rows' ≡ rows
+    → patterns' ≡ patterns → step' ≡ step → IsPatternNews x vars rows patterns step
+    → IsPatternNews x vars rows' patterns' step'
+pattern_news-same x vars rows rows' patterns patterns' step step' same_rows same_patterns same is =
+    subst (λ (rs : List Row). IsPatternNews x vars rs patterns' step') (sym same_rows)
+    (subst (λ (rs : List Row). IsPatternNews x vars rows rs step') (sym same_patterns)
+    (subst (λ (s : Step). IsPatternNews x vars rows patterns s) (sym same) is))
+
+-- a step over lowered rows, raised
+step-raised : (x : ℕ) (numbers : List ℕ) (all before vars : ℕ) (low kept whole : List Row) (step : Step)
+    → IsNumbering x numbers all before low whole → IsTidy vars step → IsNews low kept vars step
+    → IsPatternNews x (vars + x) whole (map (raised_row x) kept) (raised_step x numbers all before step)
+step-raised x numbers all before vars low kept whole step is tidy news = record {
+  follows = step-follows x numbers all before vars low whole step is tidy (not_linear kept step news.empowering)
+      news.follows;
+  named = hints-named x numbers all before low whole is (hints_of step);
+  empowering = empowering-raised x kept (clause_of step) news.empowering;
+}
+
+-- each step of it, where the same are kept
+pub news-raised : (x : ℕ) (numbers : List ℕ) (all vars : ℕ) (steps : List Step) (low whole : List Row)
+    → IsNumbering x numbers all 0 low whole → (news : AreNews low vars steps) → All (IsTidy vars) steps
+    → (k : ℕ) → k < length steps
+    → IsPatternNews x (vars + x) (whole ++ map row_of (take k (raised_steps x numbers all 0 steps)))
+    (map (raised_row x) low ++ map row_of (steps_at (raised_steps x numbers all 0 steps) (news.keeps k)))
+    (step_at (raised_steps x numbers all 0 steps) k)
+news-raised x numbers all vars steps low whole is news tidy k within =
+    pattern_news-same x (vars + x) (whole ++ map row_of (raised_steps x numbers all 0 (take k steps)))
+    (whole ++ map row_of (take k (raised_steps x numbers all 0 steps)))
+    (map (raised_row x) (low ++ map row_of (steps_at steps (news.keeps k))))
+    (map (raised_row x) low ++ map row_of (steps_at (raised_steps x numbers all 0 steps) (news.keeps k)))
+    (raised_step x numbers all k (step_at steps k)) (step_at (raised_steps x numbers all 0 steps) k)
+    (ap (λ (ss : List Step). whole ++ map row_of ss) (raised-take x numbers all steps 0 k))
+    (sym (patterns-kept x numbers all vars low steps (news.keeps k)
+    (All-weaker (λ place. place < k) (λ place. place < length steps) (λ place below. omega (arith, below, within))
+    (news.keeps k) (keeps-within low vars steps news k (omega (arith, within)))) tidy))
+    (raised-at x numbers all steps 0 k within
+    ∙ ap (λ (n : ℕ). raised_step x numbers all n (step_at steps k)) (zero-add k))
+    (step-raised x numbers all k vars (low ++ map row_of (take k steps))
+    (low ++ map row_of (steps_at steps (news.keeps k)))
+    (whole ++ map row_of (raised_steps x numbers all 0 (take k steps))) (step_at steps k)
+    (subst (λ (n : ℕ). IsNumbering x numbers all n (low ++ map row_of (take k steps))
+    (whole ++ map row_of (raised_steps x numbers all 0 (take k steps))))
+    (zero-add (length (take k steps)) ∙ length-take-le k steps (omega (arith, within)))
+    (numbering-steps x numbers all vars (take k steps) 0 low whole is (All-take (IsTidy vars) k steps tidy)))
+    (tidy k (Clause [] []) within) (news.news k within))
 
 -- ---- steps, one after another
 

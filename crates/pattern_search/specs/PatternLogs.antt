@@ -1,5 +1,5 @@
 -- Logs whose hints name pattern rows and earlier steps alone.
-use Rattle.std.specs.Prelude.{◌≡◌, ℕ, ◌^◌, ◌<◌, ◌≤◌, List, [], ◌∷◌, ◌++◌, length, map, true, ⊤}
+use Rattle.std.specs.Prelude.{◌≡◌, ℕ, suc, ◌-◌, ◌^◌, ◌<◌, ◌≤◌, List, [], ◌∷◌, ◌++◌, length, map, take, true}
 use Rattle.std.specs.Prelude.{Ok, Option, Some, IfSome, IsSomeAnd}
 use Rattle.std.specs.List.{All}
 use Rattle.league.specs.Instance.{Instance}
@@ -13,6 +13,7 @@ use Rattle.refutation.specs.Steps.{Step, clause_of, hints_of}
 use Rattle.refutation.specs.Steps.Step.{Clause}
 use Rattle.refutation.specs.Verdict.{verdict_of}
 use Rattle.refutation.specs.declared.verdict.Verdict.TheVariants.{Accepted}
+use Rattle.clause_search.specs.Kept.{MayKeep, step_at, steps_at}
 use Rattle.clause_search.specs.News.{IsTidy, row_of}
 use Rattle.decoding.specs.Excluded.{NoneAccepted}
 use Rattle.pattern_search.specs.PatternRows.{is_pattern_row, pattern_rows, pattern_var_count}
@@ -29,12 +30,15 @@ pub record IsPatternNews (games vars : ℕ) (rows patterns : List Row) (step : S
   pub named : NamesPatternRows games rows step
   pub empowering : IsEmpowering patterns (clause_of step)
 
--- each step is that over the rows and the patterns' rows, both with the steps before it behind them
-abbrev pub ArePatternNews : ℕ → ℕ → List Row → List Row → List Step → Type 0
-ArePatternNews games vars rows patterns [] = ⊤
-ArePatternNews games vars rows patterns (step ∷ steps) =
-    IsPatternNews games vars rows patterns step
-    × ArePatternNews games vars (rows ++ row_of step ∷ []) (patterns ++ row_of step ∷ []) steps
+-- Each step is that over the rows with the steps before it behind them, and over the patterns' rows with those of these
+-- steps that are kept then: where the step at place k comes, `keeps` says by places which are.
+pub record ArePatternNews (games vars : ℕ) (rows patterns : List Row) (steps : List Step) : Type 0 where
+  pub keeps : ℕ → List ℕ
+  pub start : keeps 0 ≡ []
+  pub next : (k : ℕ) → k < length steps → MayKeep (vars - games) (keeps k ++ k ∷ []) (keeps (suc k))
+  pub news : (k : ℕ) → k < length steps →
+      IsPatternNews games vars (rows ++ map row_of (take k steps)) (patterns ++ map row_of (steps_at steps (keeps k)))
+      (step_at steps k)
 
 -- the steps say more, one by one, than propagation over a league's pattern rows finds, and are numbered as behind all
 -- rows of the league
@@ -55,11 +59,12 @@ pub record RefutesPatterns (league : Instance) (limit : Option ℕ) (steps : Lis
   pub within : IfSome limit (λ most. length before ≤ most)
   pub tidy : All (IsTidy (var_count league)) steps
 
--- A log that is spent at the limit over the pattern rows: so many steps, behind which propagation over these rows
--- stands still. The limit is below 3 to the number of variables that aren't those of games.
+-- A log that is spent at the limit over the pattern rows: so many steps, behind which propagation over these rows and
+-- the steps that are kept stands still. The limit is below 3 to the number of variables that aren't those of games.
 pub record IsPatternSpent (league : Instance) (limit : Option ℕ) (steps : List Step) : Type 0 where
   pub limited : limit ≡ Some (length steps)
   pub news : TellOfPatterns league steps
-  pub quiet : (values : ℕ → Value) × IsQuiet values (pattern_rows league ++ map row_of steps)
+  pub quiet : (values : ℕ → Value)
+      × IsQuiet values (pattern_rows league ++ map row_of (steps_at steps (news.keeps (length steps))))
   pub few : length steps < 3 ^ pattern_var_count league
   pub tidy : All (IsTidy (var_count league)) steps

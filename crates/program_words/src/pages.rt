@@ -45,6 +45,8 @@ Options stand before, between or behind the words, each once at most:
                      resume
   --from SOLUTION    a season to begin at; of solve
   --near             few games to come change; of resume, with options of trial
+  --room N           a log's steps take N megabytes at most; of check, bound
+                     and audit
   --bound B          seasons that cost at most B; of rows
   --objective        a season that costs least; of rows, and not with --bound
   --form text|csv    a text, or values for a spreadsheet (text); of show
@@ -65,7 +67,7 @@ Status:  0  accepted, found, proved or made     1  not accepted
          4  it is proved that there is none, or demands that contradict each
             other are named
          5  a budget is spent                   6  a file can't be read
-         7  the text can't be written           8  memory ran out
+         7  the text can't be written           8  memory or room ran out
          9  a better season is found           10  the words can't be read
 ";
 
@@ -229,17 +231,21 @@ Example: robin part league.xml '2;7' > part.xml
 ";
 
 pub const CHECK: &str = "\
-usage: robin check INSTANCE LOG
+usage: robin check INSTANCE LOG [--room N]
 
 Checks the log of the file LOG, which says that the league of the file INSTANCE
 has no season. Nothing is searched.
+
+The option stands before, between or behind the files, once at most:
+  --room N   megabytes that the log's steps may take (no limit), a number from 0
+             to 18446744073709551615
 
 Status:  0  the log is accepted: there is no season
          1  it is rejected, at the step that is named
          3  a file is refused, or the league is too large
          6  a file can't be read
          7  the text can't be written
-         8  memory ran out
+         8  memory ran out, or the steps take more than --room allows
 
 Example: robin check league.xml found.log
 ";
@@ -270,17 +276,21 @@ Example: robin prove league.xml season.xml > least.log
 ";
 
 pub const BOUND: &str = "\
-usage: robin bound INSTANCE LOG
+usage: robin bound INSTANCE LOG [--room N]
 
 Checks the certificate of the file LOG, which says that no season of the league
 of the file INSTANCE costs less than a number. Nothing is searched.
+
+The option stands before, between or behind the files, once at most:
+  --room N   megabytes that the log's steps may take (no limit), a number from 0
+             to 18446744073709551615
 
 Status:  0  the certificate is accepted, and its number printed
          1  it is rejected, at the step that is named
          3  a file is refused, or the league is too large
          6  a file can't be read
          7  the text can't be written
-         8  memory ran out
+         8  memory ran out, or the steps take more than --room allows
 
 Example: robin bound league.xml least.log
 ";
@@ -319,11 +329,15 @@ Example: robin resume league.xml season.xml 18 --near > new-season.xml
 ";
 
 pub const AUDIT: &str = "\
-usage: robin audit INSTANCE SOLUTION K LOG
+usage: robin audit INSTANCE SOLUTION K LOG [--room N]
 
 Checks the log of the file LOG, which says that no season that the league of
 the file INSTANCE accepts has the games of the file SOLUTION in the first K
 slots. Nothing is searched. K is a number from 0 to 18446744073709551615.
+
+The option stands before, between or behind the words, once at most:
+  --room N   megabytes that the log's steps may take (no limit), a number from 0
+             to 18446744073709551615
 
 Status:  0  the log is accepted: there is no such season
          1  it is rejected, at the step that is named
@@ -331,7 +345,7 @@ Status:  0  the log is accepted: there is no such season
             fewer than K slots
          6  a file can't be read
          7  the text can't be written
-         8  memory ran out
+         8  memory ran out, or the steps take more than --room allows
 
 Example: robin audit league.xml season.xml 18 none.log
 ";

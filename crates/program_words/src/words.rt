@@ -141,6 +141,7 @@ fn wanted(role: Role) -> &'static str {
         Role::Patterns => "--patterns takes a number from 0 to 18446744073709551615",
         Role::Draws => "--seed takes a number from 0 to 18446744073709551615",
         Role::Seconds => "--seconds takes a number from 0 to 18446744073709551615",
+        Role::Room => "--room takes a number of megabytes from 0 to 18446744073709551615",
         Role::Bound => "--bound takes a number from 0 to 18446744073709551615",
         Role::Form => "--form takes text or csv",
         Role::Most => "--most takes a number from 0 to 4294967295, or all",

@@ -33,3 +33,5 @@ pub mod KeptLemmas
 pub mod StateLemmas
 -- Hints, one after another:
 pub mod ReplayLemmas
+-- How many bytes steps take:
+pub mod RoomLemmas

@@ -6,6 +6,8 @@ pub mod Soundness
 pub mod Judged
 -- Which variables rows speak of:
 pub mod Within
+-- How much memory the rows of steps count:
+pub mod Room
 -- Kept inside (laws, and how fields are seen):
 --
 -- How steps are kept, and what a hint and a part come to:

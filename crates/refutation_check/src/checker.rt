@@ -3,8 +3,10 @@ ghost use Rattle.std.specs.Prelude.{◌≡◌, ◌≤◌, IfOk, OnOk, OnErr};
 ghost use Rattle.std.specs.List.{All};
 ghost use Rattle.refutation.specs.Steps.Step.{Clause, Linear};
 ghost use Rattle.refutation_check.specs.Judged.{after_step, no_step_of, verdict_so_far};
+ghost use Rattle.refutation_check.specs.Room as rooms;
 ghost use Rattle.refutation_check.specs.Within.{AreWithin};
 
+use crate::clause::ClauseStep;
 use crate::judge::{judge_clause, judge_linear};
 use crate::keep::keep;
 use crate::kept::{KeptStep, Rejection, verdict_on};
@@ -26,6 +28,7 @@ pub struct Checker<'a> {
     rows: &'a RowStore,
     vars: u32,
     steps: Vec<KeptStep>,
+    bytes: u128,
     partial: Partial,
     trail: Vec<u32>,
     sum: Sum,
@@ -59,6 +62,7 @@ impl<'a> Checker<'a> {
             rows,
             vars,
             steps: Vec::new(alloc),
+            bytes: 0,
             partial,
             trail: Vec::new(alloc),
             sum: Sum::new(alloc),
@@ -79,17 +83,20 @@ impl<'a> Checker<'a> {
             return Ok(());
         }
         let found = judge_clause(
-            self.alloc,
             self.rows,
             &self.steps,
             self.vars,
-            clause,
-            hints,
+            ClauseStep { clause, hints },
             &mut self.partial,
             &mut self.trail,
         );
         undo(&mut self.partial, &mut self.trail);
-        keep(found?, &mut self.steps, &mut self.rejection)
+        keep(
+            found?,
+            &mut self.steps,
+            &mut self.bytes,
+            &mut self.rejection,
+        )
     }
 
     /// Judges a linear step: the sum of these rows, each with its factor, divided by a divisor. Where it follows its
@@ -115,7 +122,23 @@ impl<'a> Checker<'a> {
             &mut self.sum,
         );
         self.sum.clear();
-        keep(found?, &mut self.steps, &mut self.rejection)
+        keep(
+            found?,
+            &mut self.steps,
+            &mut self.bytes,
+            &mut self.rejection,
+        )
+    }
+
+    /// Whether the rows of the steps take no more bytes than there is room for: each step counts 64, and each term of its
+    /// row 8, or 32 where a number of a sum doesn't fit that. With None there is no limit. It takes no memory.
+    pub fn has_room(&self, room: Option<u128>) -> bool
+        ensures { result ≡ rooms.has_room room self.now }
+    {
+        match room {
+            None => true,
+            Some(most) => self.bytes <= most,
+        }
     }
 
     /// The verdict on the steps that have come. It takes no memory.

@@ -10,6 +10,13 @@ ghost use Rattle.refutation.specs.Following.{all_free, denied, distinct};
 use rows::{Lit, Partial, Term, Value, make_true};
 use std::alloc::AllocError;
 
+/// A clause step: the clause, and the numbers of the rows from which it is to follow.
+#[derive(Clone, Copy)]
+pub(crate) struct ClauseStep<'a> {
+    pub(crate) clause: &'a [Lit],
+    pub(crate) hints: &'a [u64],
+}
+
 /// Whether a literal's variable is above the number of variables.
 pub(crate) fn has_unknown(clause: &[Lit], vars: u32) -> bool
     ensures any { result ≡ list_any (λ l. nat_lt vars l.var) clause.now }

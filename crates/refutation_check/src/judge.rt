@@ -12,11 +12,11 @@ ghost use Rattle.refutation_check.specs.Kept.{IsOfKind, all_rows, row_result};
 ghost use Rattle.refutation_check.specs.Within.{AreWithin};
 
 use crate::adding::add_all;
-use crate::clause::{deny, has_unknown};
+use crate::clause::{ClauseStep, deny, has_unknown};
 use crate::kept::{KeptStep, kept_sum};
 use crate::replay::replay;
 use refutation::{Cause, Part, StepKind};
-use rows::{Lit, Partial, RowStore, Sum};
+use rows::{Partial, RowStore, Sum};
 use std::alloc::{AllocError, Global};
 
 /// Judges a clause step over as many variables as the assignment has. What it sets stays set, and listed.
@@ -24,12 +24,10 @@ use std::alloc::{AllocError, Global};
 /// # Errors
 /// Only where memory runs out.
 pub(crate) fn judge_clause(
-    alloc: Global,
     rows: &RowStore,
     steps: &[KeptStep],
     vars: u32,
-    clause: &[Lit],
-    hints: &[u64],
+    step: ClauseStep<'_>,
     partial: &mut Partial,
     trail: &mut Vec<u32>,
 ) -> Result<Result<KeptStep, Cause>, AllocError>
@@ -37,19 +35,20 @@ pub(crate) fn judge_clause(
     requires within { AreWithin vars (all_rows rows.now steps.now) }
     requires free { valued partial.old ≡ all_free }
     requires listed { IsListed partial.old trail.old.items }
-    ensures row { IfOk result (λ found.
-        row_result found ≡ judged (all_rows rows.now steps.now) vars (Clause clause.now hints.now)) }
+    ensures row { IfOk result (λ found. row_result found
+        ≡ judged (all_rows rows.now steps.now) vars (Clause step.entry.clause.now step.entry.hints.now)) }
     ensures kind { IfOk result (IsOfKind kinds.Clause) }
 
     // The next clauses also hold where memory ran out.
     ensures length { length partial.new ≡ length partial.old }
     ensures listed { IsListed partial.new trail.new.items }
 {
-    if has_unknown(clause, vars) {
+    if has_unknown(step.clause, vars) {
         return Ok(Err(Cause::UnknownVariable));
     }
-    let mut terms = Vec::with_capacity(alloc, clause.len())?;
-    if deny(clause, &mut terms, partial, trail)? {
+    let alloc = *trail.allocator();
+    let mut terms = Vec::with_capacity(alloc, step.clause.len())?;
+    if deny(step.clause, &mut terms, partial, trail)? {
         // A literal and its negation: the row without demand.
         return Ok(Ok(KeptStep::Narrow {
             kind: StepKind::Clause,
@@ -57,7 +56,7 @@ pub(crate) fn judge_clause(
             degree: 0,
         }));
     }
-    match replay(rows, steps, hints, partial, trail)? {
+    match replay(rows, steps, step.hints, partial, trail)? {
         None => Ok(Ok(KeptStep::Narrow {
             kind: StepKind::Clause,
             terms,

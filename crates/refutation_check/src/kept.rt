@@ -1,11 +1,13 @@
 //! Steps that followed, kept as their rows.
-ghost use Rattle.std.specs.Prelude.{◌≡◌, ◌<◌, ◌^◌, true, map, length, IfOk, None};
+ghost use Rattle.std.specs.Prelude.{◌≡◌, ◌<◌, ◌^◌, false, map, length, IfOk, None};
 ghost use Rattle.std.specs.List.{All};
 ghost use Rattle.refutation.specs.Verdict.{verdict_by};
 ghost use Rattle.refutation.specs.declared.step.StepKind.TheVariants as kinds;
 ghost use Rattle.refutation_check.specs.Judged as judged;
 ghost use Rattle.refutation_check.specs.Judged.{ends_false};
 ghost use Rattle.refutation_check.specs.Kept.{judged_step};
+ghost use Rattle.refutation_check.specs.Room as room;
+ghost use Rattle.refutation_check.specs.Room.{row_bytes};
 
 use refutation::{Cause, StepKind, Verdict};
 use rows::{Term, WideRow, WideTerm};
@@ -40,7 +42,7 @@ pub(crate) struct Rejection {
 pub(crate) fn kept_sum(alloc: Global, row: WideRow) -> Result<KeptStep, AllocError>
     ensures { IfOk result (λ step. judged_step step ≡ record { row = row; kind = kinds.Linear }) }
 {
-    if !is_narrow(row.terms(), row.degree()) {
+    if is_wide(row.terms(), row.degree()) {
         return Ok(KeptStep::Wide { row });
     }
     let terms = narrowed(alloc, row.terms())?;
@@ -52,24 +54,26 @@ pub(crate) fn kept_sum(alloc: Global, row: WideRow) -> Result<KeptStep, AllocErr
     })
 }
 
-/// Whether the coefficients fit 32 bits, and the degree 64.
-fn is_narrow(terms: &[WideTerm], degree: u128) -> bool
-    ensures terms { result ≡ true → All (λ t. t.coef < 2 ^ 32) terms.now }
-    ensures degree { result ≡ true → degree < 2 ^ 64 }
+/// Whether a coefficient is past 32 bits, or the degree past 64.
+fn is_wide(terms: &[WideTerm], degree: u128) -> bool
+    ensures wide { result ≡ room.is_wide (record { terms = terms.now; degree = degree }) }
+    ensures terms { result ≡ false → All (λ t. t.coef < 2 ^ 32) terms.now }
+    ensures degree { result ≡ false → degree < 2 ^ 64 }
 {
-    degree <= u128::from(u64::MAX) && are_narrow(terms)
+    degree > u128::from(u64::MAX) || has_wide(terms)
 }
 
-/// Whether the coefficients fit 32 bits.
-fn are_narrow(terms: &[WideTerm]) -> bool
-    ensures { result ≡ true → All (λ t. t.coef < 2 ^ 32) terms.now }
+/// Whether a coefficient is past 32 bits.
+fn has_wide(terms: &[WideTerm]) -> bool
+    ensures wide { result ≡ room.has_wide terms.now }
+    ensures none { result ≡ false → All (λ t. t.coef < 2 ^ 32) terms.now }
 {
     for term in terms {
         if term.coef > u128::from(u32::MAX) {
-            return false;
+            return true;
         }
     }
-    true
+    false
 }
 
 /// The terms of a sum whose coefficients fit 32 bits, as narrow ones.
@@ -88,6 +92,49 @@ fn narrowed(alloc: Global, terms: &[WideTerm]) -> Result<Vec<Term>, AllocError>
         })?;
     }
     Ok(narrow)
+}
+
+/// How many bytes a step and its row count.
+pub(crate) fn step_bytes(step: &KeptStep) -> u128
+    ensures { result ≡ row_bytes (judged_step step.now).row }
+{
+    match step {
+        KeptStep::Narrow { terms, degree, .. } => narrow_bytes(terms, *degree),
+        KeptStep::Wide { row } => wide_bytes(row.terms(), row.degree()),
+    }
+}
+
+/// How many bytes a step with such a row counts.
+fn narrow_bytes(terms: &[Term], degree: u64) -> u128
+    ensures { result ≡ row_bytes (record { terms = terms.now; degree = degree }) }
+{
+    have_32_bits(terms);
+    64 + 8 * (terms.len() as u128)
+}
+
+/// Looks at each coefficient: it has 32 bits.
+fn have_32_bits(terms: &[Term])
+    ensures { room.has_wide terms.now ≡ false }
+{
+    for term in terms {
+        let _coef = bounded(term.coef);
+    }
+}
+
+/// A coefficient of 32 bits, with its bound.
+fn bounded(coef: u32) -> u32
+    ensures same { result ≡ coef }
+    ensures bound { result < 2 ^ 32 }
+{
+    coef
+}
+
+/// How many bytes a step with a sum for a row counts.
+fn wide_bytes(terms: &[WideTerm], degree: u128) -> u128
+    ensures { result ≡ row_bytes (record { terms = terms.now; degree = degree }) }
+{
+    let bytes = if is_wide(terms, degree) { 32 } else { 8 };
+    64 + bytes * (terms.len() as u128)
 }
 
 /// The verdict where each of these steps followed.

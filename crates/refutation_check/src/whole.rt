@@ -1,12 +1,15 @@
 //! Whole logs, checked.
-ghost use Rattle.std.specs.Prelude.{◌≡◌, ◌≤◌, ◌<◌, ℕ, length, take, IfOk, IfSome, OnErr, OnOk, Ok, slice_get};
+ghost use Rattle.std.specs.Prelude.{◌≡◌, ◌≤◌, ◌<◌, ℕ, length, take, false, true, IfOk, IfSome, IsErrOf, OnErr, OnOk, Ok};
+ghost use Rattle.std.specs.Prelude.{slice_get};
 ghost use Rattle.std.specs.List.{fold};
 ghost use Rattle.refutation.specs.Verdict.{verdict_of};
 ghost use Rattle.refutation_check.specs.Judged.{after_step};
+ghost use Rattle.refutation_check.specs.Room.{has_room, KeepsRoom, PassesRoom};
 ghost use Rattle.refutation_check.specs.Soundness.{HaveNoSolution};
 ghost use Rattle.refutation_check.specs.Within.{AreWithin};
 
 use crate::checker::Checker;
+use crate::fault::StepsFault;
 use refutation::{Log, StepKind, Verdict};
 use rows::RowStore;
 use std::alloc::{AllocError, Global};
@@ -20,22 +23,51 @@ pub fn check(alloc: Global, rows: &RowStore, vars: u32, log: &Log) -> Result<Ver
     ensures verdict { IfOk result (λ verdict. verdict ≡ verdict_of rows.now vars log.now) }
     ensures refuted { result ≡ Ok Verdict.Accepted → HaveNoSolution rows.now }
 {
+    match check_within(alloc, rows, vars, log, None) {
+        Ok(verdict) => Ok(verdict),
+        Err(_) => Err(AllocError),
+    }
+}
+
+/// The same, if the log's steps take no more bytes than there is room for, as `has_room` of a checker counts them.
+///
+/// # Errors
+/// `Full` exactly where some first steps take more, unless `Mem`, where memory runs out.
+pub fn check_within(
+    alloc: Global,
+    rows: &RowStore,
+    vars: u32,
+    log: &Log,
+    room: Option<u128>,
+) -> Result<Verdict, StepsFault>
+    requires { AreWithin vars rows.now }
+    ensures verdict { IfOk result (λ verdict. verdict ≡ verdict_of rows.now vars log.now) }
+    ensures refuted { result ≡ Ok Verdict.Accepted → HaveNoSolution rows.now }
+    ensures within { OnOk result (KeepsRoom rows.now vars room log.now) }
+    ensures full { IsErrOf result StepsFault.Full → PassesRoom rows.now vars room log.now }
+{
     let mut checker = Checker::new(alloc, rows, vars)?;
-    give_all(&mut checker, log)?;
+    give_all(&mut checker, log, room)?;
     Ok(checker.verdict())
 }
 
-/// Gives a checker all steps of a log, in order.
+/// Gives a checker all steps of a log, in order, unless its steps take more bytes than there is room for.
 ///
 /// # Errors
-/// Only where memory runs out: then the checker has judged some first of these steps.
-pub fn give_all(checker: &mut Checker<'_>, log: &Log) -> Result<(), AllocError>
+/// `Full` exactly where they take more, unless `Mem`, where memory runs out. Then the checker has judged some first of
+/// these steps.
+pub fn give_all(checker: &mut Checker<'_>, log: &Log, room: Option<u128>) -> Result<(), StepsFault>
     ensures ok { OnOk result (checker.new ≡ fold after_step checker.old log.now) }
+    ensures within { OnOk result (has_room room checker.old ≡ true → has_room room checker.new ≡ true) }
+    ensures full { IsErrOf result StepsFault.Full → has_room room checker.new ≡ false }
     ensures err { OnErr result
         ((k : ℕ) × (k ≤ length log.now) × (checker.new ≡ fold after_step checker.old (take k log.now))) }
 {
     for k in 0..log.len() {
         give_step(checker, log, k)?;
+        if !checker.has_room(room) {
+            return Err(StepsFault::Full);
+        }
     }
     Ok(())
 }

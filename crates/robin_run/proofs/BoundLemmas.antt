@@ -13,7 +13,7 @@ use Rattle.league.specs.declared.game.Game.{Game}
 use Rattle.command_line.specs.Words.Command.{Bound, Prove}
 use Rattle.answers.specs.Reply.{Answer}
 use Rattle.answers.specs.Stages.{Outcome, says, takes}
-use Rattle.answers.specs.declared.status.Status.TheVariants.{Yes, No, Better, File}
+use Rattle.answers.specs.declared.status.Status.TheVariants.{Yes, No, Better, File, Spent}
 use Rattle.answers.proofs.StageLemmas.{takes-yes, says-known}
 use Rattle.refutation.specs.Logs.{Fault}
 use Rattle.refutation.specs.declared.verdict.Verdict.{Verdict}
@@ -29,7 +29,7 @@ use Rattle.command_prove.specs.Prove.{IsLeast, IsShownBy, proved}
 use Rattle.command_prove.proofs.ProveAnswers.{ShowsAs, proved-known, proved-well_formed}
 use Rattle.command_resume.specs.Seasons.{SaySeason}
 use Rattle.robin_run.specs.Bound.{Bounds, IsCertified}
-use Rattle.robin_run.specs.Prove.{IsBettered, IsUnbettered, Proves}
+use Rattle.robin_run.specs.Prove.{IsBettered, IsFloored, IsUnbettered, Proves}
 use Rattle.robin_run.specs.Run.{Answered, Run}
 use Rattle.robin_run.proofs.RunLemmas.{writes, writes-as}
 
@@ -54,6 +54,20 @@ bettered league games answer output shown written = record {
   better_accepted = shown.better_accepted;
   fit = shown.fit;
   lower = shown.lower;
+  written = subst (λ (text : List ℕ). Appends output.before output.after text) shown.text written;
+}
+
+floored : {may_stop : Type 0} (league : Instance) (conflicts : Option ℕ) (games : List Game) (answer : Answer)
+    (output : Output) → proving.IsSpentBelow league conflicts may_stop games answer
+    → Appends output.before output.after answer.text → IsFloored league games output
+floored league conflicts games answer output shown written = record {
+  bound = shown.bound;
+  floor = shown.floor;
+  steps = shown.steps;
+  accepted = shown.accepted;
+  least = shown.certified.least;
+  certified = shown.certified.proves;
+  reads_back = shown.certified.reads_back;
   written = subst (λ (text : List ℕ). Appends output.before output.after text) shown.text written;
 }
 
@@ -83,6 +97,11 @@ proves run answered instance solution conflicts is = record {
       bettered league games whole.answer run.output
       ((shown-by run instance solution conflicts league games whole.answer say whole.given).better whole.status_is)
       whole.written;
+  floored = λ league games say ended.
+      let whole = writes-as run (Prove instance solution conflicts) Spent answered is ended (λ same. cc) (λ same. cc) in
+      let shown = (shown-by run instance solution conflicts league games whole.answer say whole.given).spent
+      whole.status_is in
+      floored league shown.0 games whole.answer run.output shown.1 whole.written;
 }
 
 -- ---- `bound`

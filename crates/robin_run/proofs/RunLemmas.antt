@@ -29,6 +29,8 @@ given-gives outcome (Err (without.Refused refusal)) given is holds =
     subst (λ (g : Result Given NoValue). Gives outcome g) (sym is) holds
 given-gives outcome (Err without.Memory) given is holds =
     subst (λ (g : Result Given NoValue). Gives outcome g) (sym is) holds
+given-gives outcome (Err without.Room) given is holds =
+    subst (λ (g : Result Given NoValue). Gives outcome g) (sym is) holds
 
 -- the answer of a reply is written, unless memory ran out
 pub answered-by : (run : Run) (given : Result Given NoValue) → Gives (IsAnswer run.may_stop run.command run.store) given
@@ -36,6 +38,7 @@ pub answered-by : (run : Run) (given : Result Given NoValue) → Gives (IsAnswer
 answered-by run (Ok given) answer written few memory = (given_answer given, answer, written, few)
 answered-by run (Err (without.Refused refusal)) answer written few memory = (answer_of refusal.reply, answer, written, few)
 answered-by run (Err without.Memory) answer ended few memory = absurd (memory ended.0)
+answered-by run (Err without.Room) answer ended few memory = absurd (memory ended.0)
 
 -- where the run ends with want of memory, nothing is written
 pub kept-by : (run : Run) (given : Result Given NoValue) → Gives (IsAnswer run.may_stop run.command run.store) given
@@ -45,6 +48,7 @@ kept-by run (Ok given) answer written memory =
 kept-by run (Err (without.Refused refusal)) answer written memory =
     absurd (written-memory run.may_stop run.command run.store (answer_of refusal.reply) run.ended run.output answer written memory)
 kept-by run (Err without.Memory) answer ended memory = ended.1
+kept-by run (Err without.Room) answer ended memory = ended.1
 
 -- how many calls there were at most, as a difference
 pub few-puts : (before after most : ℕ) → after ≤ before + most → after - before ≤ most
@@ -59,6 +63,7 @@ uncalled-by run (Ok given) answer written before after few memory =
 uncalled-by run (Err (without.Refused refusal)) answer written before after few memory =
     absurd (written-memory run.may_stop run.command run.store (answer_of refusal.reply) run.ended run.output answer written memory)
 uncalled-by run (Err without.Memory) answer ended before after few memory = omega (arith, few)
+uncalled-by run (Err without.Room) answer ended before after few memory = omega (arith, few)
 
 -- ---- what is written
 

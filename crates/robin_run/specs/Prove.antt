@@ -1,5 +1,6 @@
--- What `prove` promises: a certificate that no season is better, a better season, or a budget that is spent.
-use Rattle.std.specs.Prelude.{◌≡◌, ℕ, ◌<◌, List, [], ◌∷◌, Option, Some}
+-- What `prove` promises: a certificate that no season is better, a better season, or a budget that is spent and a
+-- floor.
+use Rattle.std.specs.Prelude.{◌≡◌, ℕ, ◌<◌, List, [], ◌∷◌, Option, Some, Ok}
 use Rattle.std.specs.Io.KnownBytes.{Appends}
 use Rattle.std.specs.List.{All}
 use Rattle.robin_io.specs.Outside.{Output}
@@ -9,14 +10,14 @@ use Rattle.league.specs.Counts.{counts_of}
 use Rattle.league.specs.Instance.{Instance, IsGame}
 use Rattle.league.specs.declared.game.Game.{Game}
 use Rattle.command_line.specs.Words.{Command}
-use Rattle.answers.specs.declared.status.Status.TheVariants.{Better, Yes}
+use Rattle.answers.specs.declared.status.Status.TheVariants.{Better, Spent, Yes}
 use Rattle.refutation.specs.Steps.{Step}
 use Rattle.refutation.specs.declared.verdict.Verdict.TheVariants.{Accepted}
 use Rattle.robinx_form.specs.Texts.{solution_text}
 use Rattle.bound_rows.specs.Faithful.{IsLowerBound}
 use Rattle.command_prove.specs.Bound.{bound_verdict}
-use Rattle.bounds.specs.Certificates.{certificate_text}
-use Rattle.command_prove.specs.Prove.{IsShownBy, IsWellFormedCase}
+use Rattle.bounds.specs.Certificates.{certificate_of, certificate_text}
+use Rattle.command_prove.specs.Prove.{IsShownBy, IsWellFormedCase, spent_text}
 use Rattle.command_resume.specs.Seasons.{SaySeason}
 use Rattle.robin_run.specs.Run.{NothingFails, Run, Writes}
 
@@ -39,11 +40,23 @@ pub record IsBettered (league : Instance) (games : List Game) (output : Output) 
   pub lower : objective league (counts_of better) < objective league (counts_of games)
   pub written : Appends output.before output.after (solution_text better (Some (0, objective league (counts_of better))))
 
+-- The games are accepted, and no accepted schedule has an objective below a floor. Behind the objective of the games a
+-- certificate of the floor is written, which is accepted by the verdict of `bound` and reads back, and then a log.
+pub record IsFloored (league : Instance) (games : List Game) (output : Output) : Type 0 where
+  pub bound : ℕ
+  pub floor : List Step
+  pub steps : List Step
+  pub accepted : IsAccepted league (counts_of games)
+  pub least : IsLowerBound league bound
+  pub certified : bound_verdict league bound floor ≡ Accepted
+  pub reads_back : certificate_of (certificate_text bound floor) ≡ Ok (record { bound = bound; log = floor })
+  pub written : Appends output.before output.after (spent_text (objective league (counts_of games)) bound floor steps)
+
 pub record Promise (run : Run) (instance solution : List ℕ) (conflicts : Option ℕ) : Type 0 where
   -- What is shown of the season of a well-formed case is written, where nothing fails: the report of `validate` where
-  -- the season isn't accepted, a certificate, a better season, or a log that is spent at the budget, while no single move
-  -- betters the season. Where the run may be stopped, the budget may be lower than the one that was set, and a move may
-  -- better the season.
+  -- the season isn't accepted, a certificate, a better season, or a floor and a log that is spent at the budget, while
+  -- no single move betters the season. Where the run may be stopped, the budget may be lower than the one that was set,
+  -- and a move may better the season.
   pub proved : (league : Instance) (games : List Game)
       → IsWellFormedCase run.store instance solution league games → NothingFails run (instance ∷ solution ∷ [])
       → Writes run (IsShownBy league (IsKeptTo conflicts run.may_stop) run.may_stop games)
@@ -53,6 +66,9 @@ pub record Promise (run : Run) (instance solution : List ℕ) (conflicts : Optio
   -- Where the season is bettered, the one that is written is accepted, with a lower objective.
   pub bettered : (league : Instance) (games : List Game)
       → SaySeason run.store instance solution league games → run.ended ≡ Better → IsBettered league games run.output
+  -- Where the budget is spent, no accepted season has an objective below the floor that is written.
+  pub floored : (league : Instance) (games : List Game)
+      → SaySeason run.store instance solution league games → run.ended ≡ Spent → IsFloored league games run.output
 
 -- each run of `prove` keeps it
 abbrev pub Proves : Run → Type 0

@@ -1,5 +1,5 @@
 //! The call that the program makes: the words, the command's stages, and the answer written.
-ghost use Rattle.std.specs.Prelude.{◌≡◌, ◌+◌, ◌≤◌, ℕ, List, length, Some, map, option_map, string_bytes};
+ghost use Rattle.std.specs.Prelude.{◌≡◌, ◌+◌, ◌*◌, ◌≤◌, ℕ, List, length, Some, map, option_map, string_bytes};
 ghost use Rattle.std.specs.Option.{option_copied};
 ghost use Rattle.std.specs.Io.KnownBytes.{Keeps};
 ghost use Rattle.robin_io.specs.Outside.{output_between, store_between};
@@ -23,9 +23,9 @@ use crate::given::{Given, give};
 use answers::{NoValue, Reply, Status, write_answer};
 use command_check::check;
 use command_explain::{explain_file, part_file};
-use command_line::{Goal, Words, members, read_words};
+use command_line::{Goal, Words, members, read_words, room_of};
 use command_prove::{bound_file, prove_file};
-use command_resume::{NearResumption, Resumption, audit_file, resume_file, resume_near_file};
+use command_resume::{Audit, NearResumption, Resumption, audit_file, resume_file, resume_near_file};
 use command_rows::{ReadyRows, rows_file, values_file, write_rows};
 use command_show::{Form, demands, show};
 use command_solve::{circle, make_league, patterns_file, solve_file, solve_from_file, trial};
@@ -87,12 +87,23 @@ fn rows_of_file<S: Shelf>(
     Ok(Given::Rows(ready))
 }
 
-/// Follows a command.
+/// So many megabytes, as bytes.
+fn in_bytes(megabytes: Option<u64>) -> Option<u128>
+    ensures { result ≡ option_map (λ n. n * 1000000) megabytes }
+{
+    match megabytes {
+        None => None,
+        Some(n) => Some(u128::from(n) * 1_000_000),
+    }
+}
+
+/// Follows a command. The steps of a log may take so many bytes as the limit says.
 fn follow<S: Shelf, W: Listener>(
     alloc: Global,
     command: Words,
     shelf: &mut S,
     watch: &W,
+    limit: Option<u128>,
 ) -> Result<Given, NoValue>
     requires { HasTeams (command_of command) }
     ensures answer { Gives (IsAnswer (W.may_stop watch.now) (Some (command_of command.entry))
@@ -113,7 +124,7 @@ fn follow<S: Shelf, W: Listener>(
         Words::Sheet { instance, solution } => {
             give(show(alloc, shelf, instance, solution, Form::Csv))
         }
-        Words::Check { instance, log } => give(check(alloc, shelf, instance, log)),
+        Words::Check { instance, log } => give(check(alloc, shelf, instance, log, limit)),
         Words::Solve { instance, budgets } => {
             give(solve_file(alloc, shelf, instance, budgets, watch))
         }
@@ -136,7 +147,7 @@ fn follow<S: Shelf, W: Listener>(
             solution,
             conflicts,
         } => give(prove_file(alloc, shelf, instance, solution, conflicts, watch)),
-        Words::Bound { instance, log } => give(bound_file(alloc, shelf, instance, log)),
+        Words::Bound { instance, log } => give(bound_file(alloc, shelf, instance, log, limit)),
         Words::Resume {
             instance,
             solution,
@@ -160,7 +171,10 @@ fn follow<S: Shelf, W: Listener>(
             solution,
             k,
             log,
-        } => give(audit_file(alloc, shelf, instance, solution, k, log)),
+        } => {
+            let audit = Audit { k, limit };
+            give(audit_file(alloc, shelf, instance, solution, audit, log))
+        }
         Words::Rows { instance, goal } => rows_of_file(alloc, shelf, instance, goal),
         Words::Values { instance, values } => give(values_file(alloc, shelf, instance, values)),
         Words::Circle { n } => Ok(Given::Answer(circle(alloc, n)?)),
@@ -186,7 +200,7 @@ fn answer<S: Shelf, W: Listener>(
 {
     match read_words(words) {
         None => Err(NoValue::Refused(refuse_words(alloc, words)?)),
-        Some(command) => follow(alloc, command, shelf, watch),
+        Some(command) => follow(alloc, command, shelf, watch, in_bytes(room_of(words))),
     }
 }
 
@@ -237,6 +251,13 @@ fn write_given<K: Sink, T: Sink>(out: &mut K, told: &mut T, given: Result<Given,
         }
         Err(NoValue::Memory) => {
             tell(told, b"robin: memory ran out, and no answer was written\n");
+            Status::Memory
+        }
+        Err(NoValue::Room) => {
+            tell(
+                told,
+                b"robin: the log's steps take more than --room allows, and no answer was written\n",
+            );
             Status::Memory
         }
     }

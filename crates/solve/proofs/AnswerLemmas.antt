@@ -18,6 +18,7 @@ use Rattle.rows.specs.Rows.{Row}
 use Rattle.refutation.specs.Steps.{Step, is_linear}
 use Rattle.refutation.specs.Steps.Step.{Clause}
 use Rattle.refutation.specs.Texts.{version_of}
+use Rattle.clause_search.proofs.SearchLemmas.{news-clauses}
 use Rattle.clause_search.specs.Answers.{IsSpentAt, Refutes}
 use Rattle.clause_search.specs.News.{IsTidy}
 use Rattle.clause_search.proofs.LineLemmas.{step_named, step_short}
@@ -27,7 +28,7 @@ use Rattle.pattern_search.specs.PatternLogs.{IsPatternSpent, RefutesPatterns}
 use Rattle.pattern_search.specs.PatternRows.{pattern_rows}
 use Rattle.pattern_search.specs.declared.found.PatternFound.{PatternFound}
 use Rattle.pattern_search.specs.declared.found.PatternFound.TheVariants.{Spent}
-use Rattle.pattern_search.proofs.NewsLemmas.{news-clauses, pattern_news-clauses}
+use Rattle.pattern_search.proofs.NewsLemmas.{pattern_news-clauses}
 use Rattle.break_counts.proofs.SearchLemmas.{refuting}
 use Rattle.solve.specs.Solutions.{IsSpentOn, IsWritable, RefutesLeague}
 use Rattle.solve.specs.Tried.{RefutesWithin}

@@ -8,7 +8,7 @@ use moves::{Board, Swap};
 
 /// A chain with more links isn't tried: hardly a move of one is ever made. A link is two teams or one slot, and a move
 /// takes out two games for each.
-const LONGEST: u16 = 6;
+pub(crate) const LONGEST: u16 = 6;
 
 /// Whether the chain of a move is too long to be tried.
 pub(crate) fn is_long(board: &Board, step: &Swap) -> bool

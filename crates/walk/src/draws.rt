@@ -168,6 +168,14 @@ pub(crate) const WHOLES: Mix = Mix {
     part_round: 80,
 };
 
+/// Moves that touch a part of two rounds or of two teams' games, and no others.
+pub(crate) const PARTS_ALONE: Mix = Mix {
+    home: 76,
+    round: 0,
+    team: 0,
+    part_round: 120,
+};
+
 /// A move of a league of n teams.
 pub(crate) fn drawn_move(random: &mut Pcg32, n: u16, phased: bool, mix: Mix) -> Swap
     requires teams { IsTeamCount n }
@@ -209,7 +217,7 @@ pub(crate) fn aimed_move(random: &mut Pcg32, board: &Board, aim: Aim) -> Swap
 }
 
 /// A move of two teams, in order.
-fn venues_turned(one: TeamId, other: TeamId) -> Swap
+pub(crate) fn venues_turned(one: TeamId, other: TeamId) -> Swap
     ensures { (n : ℕ) → one.0 < n → other.0 < n → IsOfLeague n result }
 {
     if one.0 < other.0 {
@@ -239,7 +247,7 @@ fn slots_exchanged(team: TeamId, one: SlotId, other: SlotId) -> Swap
 }
 
 /// A move of two teams, in order, and a slot.
-fn teams_exchanged(one: TeamId, other: TeamId, slot: SlotId) -> Swap
+pub(crate) fn teams_exchanged(one: TeamId, other: TeamId, slot: SlotId) -> Swap
     ensures { (n : ℕ) → one.0 < n → other.0 < n → slot.0 < slot_count n → IsOfLeague n result }
 {
     if one.0 < other.0 {
@@ -258,7 +266,7 @@ fn teams_exchanged(one: TeamId, other: TeamId, slot: SlotId) -> Swap
 }
 
 /// Another team of n.
-fn other_team(random: &mut Pcg32, n: u16, team: TeamId) -> TeamId
+pub(crate) fn other_team(random: &mut Pcg32, n: u16, team: TeamId) -> TeamId
     requires teams { IsTeamCount n }
     ensures { result.0 < n }
 {

@@ -1,7 +1,7 @@
 //! Where a walk stands, and how it goes on from there.
-ghost use Rattle.std.specs.Prelude.{◌≡◌, ℕ, ◌<◌, ◌≤◌, IfOk};
+ghost use Rattle.std.specs.Prelude.{◌≡◌, ℕ, ◌<◌, ◌≤◌, IfOk, IfSome};
 ghost use Rattle.std.specs.List.{All};
-ghost use Rattle.league.specs.Counts.{counts_of};
+ghost use Rattle.league.specs.Counts.{counts_of, slot_count};
 ghost use Rattle.league.specs.Instance.{IsGame, IsTeamCount};
 ghost use Rattle.league.specs.Structure.{IsRoundRobin};
 ghost use Rattle.rule_core.specs.Table.{table_counts};
@@ -11,11 +11,14 @@ ghost use Rattle.tally.specs.Tallies.{OnlyTallied};
 ghost use Rattle.descent.specs.Score.{IsNoWorse, score_on};
 ghost use Rattle.walk.specs.Standing.{IsKept, IsStandingOn};
 
-use crate::aims::aim_at;
+use crate::aims::{Aim, aim_at};
 use crate::best::Kept;
 use crate::chains::is_long;
-use crate::draws::{Mix, PARTS, WHOLES, aimed_move, below, drawn_move};
+use crate::draws::{
+    Mix, PARTS, PARTS_ALONE, WHOLES, aimed_move, below, drawn_move, teams_exchanged, venues_turned,
+};
 use crate::threshold::{Cooling, drawn_threshold};
+use crate::trades::{Trade, Traded, drawn_trade};
 use crate::weighed::WeighedParts;
 use descent::Score;
 use league::{Schedule, TeamId};
@@ -37,16 +40,20 @@ const HARD_HEAT: u64 = 512;
 /// this one.
 const AIMED: u16 = 64;
 
+/// A move of a walk that cools slowly is a trade if the number drawn for it, below 256, is below this one.
+const TRADES: u16 = 48;
+
 /// A stretch of a walk has at most so many moves tried.
 pub(crate) const STRETCH: u64 = 2000;
 
 /// Moves that are to lower what parts weigh: at most how many are tried, the heat of their thresholds, how often each
-/// kind is drawn, and how many of 256 are aimed at unmet parts.
+/// kind is drawn, how many of 256 are trades, and how many of 256 are aimed at unmet parts.
 #[derive(Clone, Copy)]
 pub(crate) struct Stage {
     limit: u64,
     heat: u64,
     mix: Mix,
+    trades: u16,
     aimed: u16,
 }
 
@@ -59,6 +66,7 @@ impl Stage {
             limit,
             heat: HARD_HEAT,
             mix: PARTS,
+            trades: 0,
             aimed: AIMED,
         }
     }
@@ -71,7 +79,33 @@ impl Stage {
             limit,
             heat,
             mix: WHOLES,
+            trades: 0,
             aimed: 0,
+        }
+    }
+
+    /// So many moves, at a heat, that are to meet hard constraints slowly.
+    pub(crate) fn cooling(limit: u64, heat: u64) -> Stage
+        ensures { result.limit ≡ limit }
+    {
+        Stage {
+            limit,
+            heat,
+            mix: PARTS_ALONE,
+            trades: TRADES,
+            aimed: AIMED,
+        }
+    }
+
+    /// Where a move of a board is aimed, if it is.
+    fn aim(self, random: &mut Pcg32, board: &Board, parts: &WeighedParts) -> Option<Aim>
+        ensures team { IfSome result (λ aim. aim.team < board.now.n) }
+        ensures slot { IfSome result (λ aim. aim.slot < slot_count board.now.n) }
+    {
+        if below(random, 256) < self.aimed {
+            aim_at(random, board, parts)
+        } else {
+            None
         }
     }
 
@@ -79,12 +113,15 @@ impl Stage {
     fn step(self, random: &mut Pcg32, board: &Board, parts: &WeighedParts) -> Swap
         ensures { IsOfLeague board.now.n result }
     {
-        if below(random, 256) < self.aimed
-            && let Some(aim) = aim_at(random, board, parts)
-        {
-            return aimed_move(random, board, aim);
+        match self.aim(random, board, parts) {
+            Some(aim) => aimed_move(random, board, aim),
+            None => drawn_move(random, board.n(), board.phased(), self.mix),
         }
-        drawn_move(random, board.n(), board.phased(), self.mix)
+    }
+
+    /// Whether a trade is drawn.
+    fn is_trade(self, random: &mut Pcg32) -> bool {
+        self.trades > 0 && below(random, 256) < self.trades
     }
 }
 
@@ -93,6 +130,7 @@ impl Stage {
 pub(crate) struct Standing {
     pub(crate) board: Board,
     edit: Edit,
+    traded: Traded,
     pub(crate) random: Pcg32,
 }
 
@@ -116,6 +154,7 @@ impl Standing {
         Ok(Standing {
             board: Board::new(alloc, n, phased, first)?,
             edit: Edit::new(alloc, n)?,
+            traded: Traded::none(alloc)?,
             random: Pcg32::seed_from_u64(seed),
         })
     }
@@ -139,9 +178,7 @@ impl Standing {
             if tried == limit || parts.are_at_goal() || watch.is_over(tried) {
                 return tried;
             }
-            let step = stage.step(&mut self.random, &self.board, parts);
-            let more = drawn_threshold(&mut self.random, stage.heat);
-            let legal = self.attempt_weighed(step, more, parts);
+            let legal = self.attempt_drawn(stage, parts);
             tried = with_move(tried, limit, legal);
         }
         tried
@@ -192,6 +229,55 @@ impl Standing {
             best.keep(&self.board, Score::of(tally));
         }
         tried
+    }
+
+    /// Tries a move of a stage that is drawn: makes it where it is legal and the parts weigh no more after it than a drawn
+    /// threshold allows. Says whether it is legal and not too long.
+    fn attempt_drawn(&mut self, stage: Stage, parts: &mut WeighedParts) -> bool
+        requires standing { IsStandingOn self.old.board.n self.old.board.phased (round_counts self.old.board) self.old }
+        ensures standing { IsStandingOn self.old.board.n self.old.board.phased (round_counts self.new.board) self.new }
+    {
+        if stage.is_trade(&mut self.random) {
+            let aim = stage.aim(&mut self.random, &self.board, parts);
+            let trade = drawn_trade(&mut self.random, &self.board, aim);
+            let more = drawn_threshold(&mut self.random, stage.heat);
+            return self.attempt_trade(trade, more, parts);
+        }
+        let step = stage.step(&mut self.random, &self.board, parts);
+        let more = drawn_threshold(&mut self.random, stage.heat);
+        self.attempt_weighed(step, more, parts)
+    }
+
+    /// Tries a trade: makes it where the parts weigh at most so much more after it. Says whether it isn't too long.
+    fn attempt_trade(&mut self, trade: Trade, more: u64, parts: &mut WeighedParts) -> bool
+        requires one { trade.one.0 < self.old.board.n }
+        requires other { trade.other.0 < self.old.board.n }
+        requires slot { trade.slot.0 < slot_count self.old.board.n }
+        requires standing { IsStandingOn self.old.board.n self.old.board.phased (round_counts self.old.board) self.old }
+        ensures standing { IsStandingOn self.old.board.n self.old.board.phased (round_counts self.new.board) self.new }
+    {
+        if !self.traded.find(&self.board, trade) {
+            return false;
+        }
+        if parts.follow_games(self.traded.out(), self.traded.into_games(), more) {
+            self.turn_meetings(trade.other);
+            self.make_if_legal(teams_exchanged(trade.one, trade.other, trade.slot));
+            self.turn_meetings(trade.other);
+        }
+        true
+    }
+
+    /// Turns the meetings of a team that a trade turns.
+    fn turn_meetings(&mut self, team: TeamId)
+        requires team { team.0 < self.old.board.n }
+        requires standing { IsStandingOn self.old.board.n self.old.board.phased (round_counts self.old.board) self.old }
+        ensures standing { IsStandingOn self.old.board.n self.old.board.phased (round_counts self.new.board) self.new }
+    {
+        for opponent in 0..self.board.n() {
+            if self.traded.is_turned(opponent) {
+                self.make_if_legal(venues_turned(team, TeamId(opponent)));
+            }
+        }
     }
 
     /// Tries a move: makes it where it is legal and the parts weigh at most so much more after it. Says whether it is

@@ -84,7 +84,7 @@ pub(crate) struct Walker {
     pub(crate) standing: Standing,
     pub(crate) games: Vec<Game>,
     pub(crate) best: Kept,
-    budget: u64,
+    pub(crate) budget: u64,
     pub(crate) left: u64,
 }
 
@@ -184,6 +184,7 @@ impl Walker {
         ensures left { OnOk result (self.new.left ≤ self.old.left) }
     {
         self.place(alloc, league, search)?;
+        self.cool(alloc, league, search, watch)?;
         let _sum = self.meet_hard(alloc, league, Patience::of(search), watch)?;
         let few_breaks = self.walk_circles(alloc, league, watch)?;
         self.lower_soft(alloc, league, few_breaks, watch)?;
@@ -425,7 +426,7 @@ impl Walker {
 }
 
 /// A score of which only what the hard constraints cost is known.
-fn unweighed(infeasibility: u128) -> Score {
+pub(crate) fn unweighed(infeasibility: u128) -> Score {
     Score {
         infeasibility,
         objective: u128::MAX,

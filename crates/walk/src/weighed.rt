@@ -125,7 +125,7 @@ impl WeighedParts {
 
     /// What all parts would weigh after an edit.
     pub(crate) fn weigh_edit(&mut self, edit: &Edit) -> u64 {
-        self.count_edit(edit);
+        self.count_games(edit.out(), edit.into_games());
         let then = self.weigh(u64::MAX);
         self.plays.put_back(edit.out());
         self.forget();
@@ -134,11 +134,17 @@ impl WeighedParts {
 
     /// Follows an edit, where the parts cost at most so much more after it. Says whether they do.
     pub(crate) fn follow(&mut self, edit: &Edit, more: u64) -> bool {
-        self.count_edit(edit);
+        self.follow_games(edit.out(), edit.into_games(), more)
+    }
+
+    /// Follows a move that takes these games out and puts those in, where the parts cost at most so much more after it.
+    /// Says whether they do.
+    pub(crate) fn follow_games(&mut self, out: &[Game], into: &[Game], more: u64) -> bool {
+        self.count_games(out, into);
         let then = self.weigh(self.sum.saturating_add(more));
         match then {
-            Some(sum) => self.keep(edit.out(), sum),
-            None => self.plays.put_back(edit.out()),
+            Some(sum) => self.keep(out, sum),
+            None => self.plays.put_back(out),
         }
         self.forget();
         then.is_some()
@@ -150,12 +156,12 @@ impl WeighedParts {
         self.follow(edit, u64::try_from(more).unwrap_or(u64::MAX))
     }
 
-    /// Makes an edit, and finds the parts that it changes.
-    fn count_edit(&mut self, edit: &Edit) {
-        for game in edit.out() {
+    /// Takes games out and puts others in, and finds the parts that this changes.
+    fn count_games(&mut self, out: &[Game], into: &[Game]) {
+        for game in out {
             self.count_meeting(game.home.0, game.away.0, game.slot.0, false);
         }
-        for game in edit.into_games() {
+        for game in into {
             self.count_meeting(game.home.0, game.away.0, game.slot.0, true);
             self.plays.put(*game);
         }

@@ -8,6 +8,8 @@ use league::{ClassName, Constraint};
 pub(crate) enum Weighing {
     /// The hard constraints alone.
     Hard,
+    /// The hard constraints alone, each with the weight that it has at the start.
+    Steady,
     /// All constraints together: a soft one by its penalty, and each unit of a hard one's penalty by at least so much.
     Together(u32),
 }
@@ -24,11 +26,15 @@ impl Weighing {
         if let Weighing::Together(unit) = self {
             return Some(Weight::together(constraint, unit));
         }
-        if constraint.hard {
-            Some(Weight::alone(constraint))
-        } else {
-            None
+        if !constraint.hard {
+            return None;
         }
+        let weight = Weight::alone(constraint);
+        Some(if matches!(self, Weighing::Steady) {
+            weight.steady()
+        } else {
+            weight
+        })
     }
 }
 
@@ -64,6 +70,15 @@ impl Weight {
             now: unit.saturating_mul(10),
             most: unit.saturating_mul(80),
             growth: 8,
+        }
+    }
+
+    /// A weight that stays as it is.
+    fn steady(self) -> Weight {
+        Weight {
+            least: self.now,
+            most: self.now,
+            ..self
         }
     }
 

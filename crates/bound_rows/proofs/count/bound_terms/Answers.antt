@@ -1,4 +1,6 @@
-use Rattle.std.proofs.Common.{◌≡◌, ℕ, ap, ◌∙◌, arith}
+use Rattle.std.proofs.Common.{◌≡◌, ◌^◌, ◌<◌, ℕ, List, ap, subst, ◌∙◌, arith}
+use Rattle.std.specs.List.{All}
+use Rattle.league.specs.declared.class.Constraint.{Constraint}
 use Rattle.bound_rows.specs.Sizes.{paid_size}
 use Rattle.bound_rows.proofs.SizeLemmas.{bound_size-paid}
 use Rattle.bound_rows.proofs.count.bound_terms.Goals as goal
@@ -21,4 +23,10 @@ returns-clause-terms c =
 pub returns-clause-counted : goal.returns-clause-counted
 returns-clause-counted c = λ few.
     let count = returns-clause-terms c in
-    record { instance = c.n.ensures.instance; count = count; few = omega (arith, count, few) }
+    record {
+      instance = c.n.ensures.instance;
+      count = count;
+      few = omega (arith, count, few);
+      penalties = subst (λ (cs : List Constraint). All (λ x. x.penalty < 2 ^ 32) cs) c.constraints.ensures
+          c.paid_terms-paid.ensures.small;
+    }

@@ -1,8 +1,6 @@
-use Rattle.std.proofs.Common.{◌≤◌, List, arith, ap, inl, refl, subst, sym, ◌∙◌}
+use Rattle.std.proofs.Common.{◌≤◌, arith, inl, refl, subst, sym, ◌∙◌}
 use Rattle.league.specs.Accepted.{objective}
-use Rattle.league.specs.Bounds.{largest}
 use Rattle.league.specs.Counts.{counts_of}
-use Rattle.league.specs.declared.class.Constraint.{Constraint}
 use Rattle.solve.proofs.FewLemmas.{round_robin-few}
 use Rattle.bounds.specs.Proofs.{IsProved}
 use Rattle.bounds.specs.declared.proved.Proved.{Proved}
@@ -14,11 +12,8 @@ in_64_bits-objective-requires g c =
     omega (
       arith,
       c.requires.assessed,
-      objective_small c.args.league.now (counts_of c.args.schedule.now) c.greatest_penalty-greatest.result
-          c.requires.terms.instance
-          (c.greatest_penalty-greatest.ensures
-          ∙ ap (λ (cs : List Constraint). largest (λ (x : Constraint). x.penalty) cs) c.constraints.ensures)
-          c.greatest_penalty-greatest.type_inv c.requires.terms.few c.requires.accepted,
+      objective_small c.args.league.now (counts_of c.args.schedule.now) c.args.counted.terms c.requires.terms
+          c.requires.accepted,
     )
 
 pub lowered_watched-requires-clause-few : goal.lowered_watched-requires-clause-few

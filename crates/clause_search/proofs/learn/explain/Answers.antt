@@ -12,7 +12,7 @@ returns-clause-learnable c =
     c.in_ok-find_roles.ensures in
     let back : IsBackLevel c.args.trail.now.entries c.deref.result.now c.args.start c.back_level.result =
     subst (λ (rs : List Role). IsBackLevel c.args.trail.now.entries rs c.args.start c.back_level.result)
-    (c.deref-3.ensures.value ∙ sym c.deref.ensures.value) c.back_level.ensures in
+    (c.deref-4.ensures.value ∙ sym c.deref.ensures.value) c.back_level.ensures in
     walked_learnable c.args.trail.now c.args.conflict.row c.args.start c.back_level.result c.deref.result.now
     c.collect.new.clause.items c.collect.new.hints.items c.len-len.ensures.lawful
     (omega (arith, c.len-len.ensures.len, c.len-len.ensures.at_most)) c.requires.start analyzed back

@@ -7,10 +7,10 @@ use Rattle.clause_search.proofs.walk.search_watched.Given as goal
 abbrev pub invariant-turns : goal.invariant-turns
 invariant-turns g l = record {
   vars : l.desk.order.vars ≡ l.vars;
-  under : IsUnder l.rows l.vars l.log l.trail;
+  under : IsUnder l.rows l.vars l.desk.given l.log l.desk.kept.places.items l.trail;
   within : IfSome l.limit (λ most. length l.log ≤ most);
   passed : IsPassed (g.W.Watch.stops_at l.watch) (length l.log);
 }
 
 abbrev pub decreases-turns : goal.decreases-turns
-decreases-turns g l = left l.vars (length l.log) (length l.trail.entries)
+decreases-turns g l = left l.vars l.desk.kept.room (length l.desk.kept.places.items) (length l.trail.entries)

@@ -7,8 +7,8 @@ use Rattle.bound_rows.specs.Bounded.{Bounded}
 use Rattle.command_prove.proofs.CheckLemmas.{shown, within-from_known}
 use Rattle.command_prove.proofs.checked.check_bound.Goals as goal
 
-pub check-requires : goal.check-requires
-check-requires c =
+pub check_within-requires : goal.check_within-requires
+check_within-requires c =
     subst (λ (rows : List Row). AreWithin c.vars.result rows) (sym c.rows.ensures)
     (subst (λ (vars : ℕ). AreWithin vars (bound_rows c.in_ok-system.system.league c.in_ok-system.system.bound))
     (sym c.vars.ensures.vars)

@@ -15,8 +15,8 @@ pub prove-requires-clause-accepted : goal.prove-requires-clause-accepted
 prove-requires-clause-accepted g c =
     c.in_ok-assessed.ensures.feasible.0 c.if-not-assessed.false
 
-pub proof_reply-requires : goal.proof_reply-requires
-proof_reply-requires g c =
+pub proof_reply-requires-clause-written : goal.proof_reply-requires-clause-written
+proof_reply-requires-clause-written g c =
     proved-written c.args.league.now (counts_of c.args.schedule.now) c.in_ok-proved.ensures.0
     (g.W.Watch.may_stop c.args.watch.now) c.in_ok-proved.proved c.in_ok-proved.ensures.2
 
@@ -25,7 +25,8 @@ returns g c =
     let may_stop = g.W.Watch.may_stop c.args.watch.now in
     replied-by c.args.league.now _ may_stop c.args.schedule.now c.proof_reply.result c.in_ok-proved.ensures.0
     c.in_ok-proved.ensures.1
-    (replied-told c.args.league.now c.in_ok-proved.ensures.0 may_stop c.args.schedule.now c.in_ok-proved.proved
-    c.proof_reply.result c.requires.counted.instance.teams
+    (replied-told c.args.league.now c.in_ok-proved.ensures.0 may_stop c.args.schedule.now
+    c.in_ok-assessed.assessed.objective c.in_ok-proved.proved c.proof_reply.result c.in_ok-assessed.ensures.objective
+    c.requires.counted.instance.teams
     (c.in_ok-assessed.ensures.feasible.0 c.if-not-assessed.false)
     c.in_ok-proved.ensures.2 c.proof_reply.ensures)

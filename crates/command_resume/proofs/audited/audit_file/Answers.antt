@@ -19,7 +19,7 @@ returns-clause-answer g c =
     let whole : Store = store_between g.S.Shelf c.args.shelf.now c.audit_log.new.shelf in
     let rest : Store = store_between g.S.Shelf c.season_in.new.shelf c.audit_log.new.shelf in
     Answers-wider _ _
-    (audited-within whole rest c.args.instance.now c.args.solution.now c.args.k c.args.log.now c.in_ok-season.season
+    (audited-within whole rest c.args.instance.now c.args.solution.now c.args.audit.k c.args.log.now c.in_ok-season.season
     c.in_ok-season.ensures.season
     (rest-between g.S.Shelf c.args.shelf.now c.season_in.new.shelf c.audit_log.new.shelf c.in_ok-season.season.bytes
     c.in_ok-season.ensures.contents c.in_ok-season.ensures.count c.in_ok-season.ensures.later))
@@ -35,7 +35,7 @@ pub returns-in_err-season-clause-answer : goal.returns-in_err-season-clause-answ
 returns-in_err-season-clause-answer g c =
     let store : Store = store_between g.S.Shelf c.args.shelf.now c.season_in.new.shelf in
     let never : Season → Outcome = λ season answer. ⊥ in
-    Answers-wider (plays store c.args.instance.now c.args.solution.now c.args.k never) _
-    (λ answer. plays-wider store c.args.instance.now c.args.solution.now c.args.k never
-    (at_log store c.args.log.now c.args.k) answer (λ season none. absurd none))
+    Answers-wider (plays store c.args.instance.now c.args.solution.now c.args.audit.k never) _
+    (λ answer. plays-wider store c.args.instance.now c.args.solution.now c.args.audit.k never
+    (at_log store c.args.log.now c.args.audit.k) answer (λ season none. absurd none))
     _ (search rules)

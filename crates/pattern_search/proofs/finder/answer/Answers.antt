@@ -5,7 +5,7 @@ use Rattle.clause_search.specs.Answers.{IsAnswer}
 use Rattle.clause_search.specs.declared.found.Found.{Found}
 use Rattle.pattern_search.specs.Raised.{raised_steps}
 use Rattle.pattern_search.proofs.LogLemmas.{count_is, refuted-clauses, refuted_by, spent_by, tidy-known}
-use Rattle.pattern_search.proofs.NewsLemmas.{news-clauses}
+use Rattle.clause_search.proofs.SearchLemmas.{news-clauses}
 use Rattle.pattern_search.proofs.PatternLemmas.{satisfied_here}
 use Rattle.pattern_search.proofs.finder.answer.Goals as goal
 

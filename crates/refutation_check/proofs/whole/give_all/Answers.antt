@@ -1,8 +1,19 @@
-use Rattle.std.proofs.Common.{arith}
+use Rattle.std.proofs.Common.{◌+◌, arith, sym, ◌∙◌}
 use Rattle.refutation_check.proofs.StateLemmas.{given_next}
 use Rattle.refutation_check.proofs.whole.give_all.Goals as goal
 
 pub loop-k-preserved : goal.loop-k-preserved
-loop-k-preserved c =
-    given_next c.args.checker.now c.loop-k.checker c.give_step.new.checker c.args.log.now c.loop-k.k
-    (omega (arith, c.len-k-end.ensures)) c.loop-k.invariant c.in_ok-give_step.ensures.ok
+loop-k-preserved c = record {
+  judged = given_next c.args.checker.now c.loop-k.checker c.give_step.new.checker c.args.log.now c.loop-k.k
+      (omega (arith, c.len-k-end.ensures)) c.loop-k.invariant.judged c.in_ok-give_step.ensures.ok;
+  within = λ has. sym c.has_room.ensures ∙ c.if-not-has_room.false;
+}
+
+-- the row of the step at hand is one too many
+pub returns-then-not-has_room-clause-err : goal.returns-then-not-has_room-clause-err
+returns-then-not-has_room-clause-err c = (
+  c.loop-k.k + 1,
+  omega (arith, c.len-k-end.ensures),
+  given_next c.args.checker.now c.loop-k.checker c.give_step.new.checker c.args.log.now c.loop-k.k
+      (omega (arith, c.len-k-end.ensures)) c.loop-k.invariant.judged c.in_ok-give_step.ensures.ok,
+)

@@ -15,6 +15,7 @@ invariant_of-self-2 c = record {
       (found_within c.self.inside.rows.now c.self.inside.vars c.self.inside.steps.items c.deref.result.now
       c.in_ok-found.field-0 (Linear c.args.parts.now c.args.divisor) c.deref.ensures.value
       (c.in_ok-found.ensures.row c.self.inside.vars) c.self.invariant.within);
+  counted = c.keep.ensures.counted;
 }
 
 pub returns-clause-ok : goal.returns-clause-ok

@@ -18,4 +18,5 @@ invariant_of-self-2 c = record {
       (found_within c.self.inside.rows.now c.self.inside.vars c.self.inside.steps.items c.deref.result.now
       c.in_ok-found.field-0 (Clause c.args.clause.now c.args.hints.now) c.deref.ensures.value
       c.in_ok-found.ensures.row c.self.invariant.within);
+  counted = c.keep.ensures.counted;
 }

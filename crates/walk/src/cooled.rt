@@ -1,0 +1,78 @@
+//! Walks on the hard constraints that cool slowly, for leagues that are hard to meet.
+ghost use Rattle.std.specs.Prelude.{◌≤◌, OnOk};
+ghost use Rattle.descent.specs.Score.{IsNoWorse};
+ghost use Rattle.walk.specs.Standing.{IsWalkerIn};
+
+use crate::standing::{STRETCH, Stage};
+use crate::walker::{Walker, unweighed};
+use crate::weighed::WeighedParts;
+use crate::weights::Weighing;
+use league::League;
+use robin_watch::Listener;
+use std::alloc::{AllocError, Global};
+
+/// A walk cools where it may try at least so many moves in all.
+const ENOUGH: u64 = 10_000_000;
+
+/// The searches before the one with this number don't cool.
+const FIRST: u64 = 2;
+
+/// How cold a walk is at its start, in tenths: a unit of a constraint's penalty weighs ten.
+const WARM: u64 = 3;
+
+/// How cold a walk is at its end, likewise.
+const COLD: u64 = 20;
+
+/// The heat of a walk's thresholds, in 256ths, times how cold it is.
+const UNIT: u64 = 17_740;
+
+impl Walker {
+    /// In a long walk, walks on the hard constraints by weights that stay and at a heat that falls slowly, until four
+    /// fifths of the moves that are left are tried, the hard constraints are met, or the watch ends the walk: in a
+    /// search with this number. The best games at the end of a stretch are kept.
+    ///
+    /// # Errors
+    /// Only where memory runs out.
+    pub(crate) fn cool<W: Listener>(
+        &mut self,
+        alloc: Global,
+        league: &League,
+        search: u64,
+        watch: &W,
+    ) -> Result<(), AllocError>
+        requires walker { IsWalkerIn league.now self.old }
+        ensures walker { OnOk result (IsWalkerIn league.now self.new) }
+        ensures no_worse { OnOk result (IsNoWorse self.new.best.score self.old.best.score) }
+        ensures left { OnOk result (self.new.left ≤ self.old.left) }
+    {
+        if self.budget < ENOUGH || search < FIRST {
+            return Ok(());
+        }
+        let moves = (self.left / 5).saturating_mul(4);
+        let end = self.left.saturating_sub(moves);
+        let mut parts = WeighedParts::new(alloc, league, Weighing::Steady)?;
+        'stretches: for _stretch in 0..moves / STRETCH + 1000 {
+            if self.left <= end || self.is_over(watch) {
+                return Ok(());
+            }
+            let left = self.left - end;
+            let stage = Stage::cooling(left.min(STRETCH), heat(moves, left));
+            let sum = self.stretch(&mut parts, stage, watch);
+            self.keep_lower(alloc, league, unweighed(sum))?;
+            self.tell(league, watch);
+            if sum == 0 {
+                return Ok(());
+            }
+        }
+        Ok(())
+    }
+}
+
+/// The heat of thresholds where so many of a walk's moves are left.
+fn heat(moves: u64, left: u64) -> u64 {
+    let done = moves.saturating_sub(left);
+    let cold = WARM
+        .saturating_mul(left)
+        .saturating_add(COLD.saturating_mul(done));
+    UNIT.saturating_mul(moves) / cold.max(1)
+}
