@@ -48,12 +48,7 @@ fn better_reply(alloc: Global, schedule: &Schedule, objective: u64) -> Result<Re
 }
 
 /// A schedule's objective, a certificate of a floor, and a log that is spent.
-fn spent_reply(
-    alloc: Global,
-    cost: u128,
-    floor: &Floor,
-    log: &Log,
-) -> Result<Reply, AllocError>
+fn spent_reply(alloc: Global, cost: u128, floor: &Floor, log: &Log) -> Result<Reply, AllocError>
     requires named { All NamesRows floor.now.log }
     requires short { HasShortLines floor.now.log }
     requires nothing { floor.now.bound ≡ 0 → floor.now.log ≡ [] }

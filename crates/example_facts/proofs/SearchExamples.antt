@@ -263,8 +263,11 @@ unspent = (λ is. none_some is.limited, λ rows step is. omega (arith, is.few))
 pub unspent-steps : (IsSpentAt (at_least 1 [] ∷ []) 2 (Some 0) [] → ⊥)
     × (IsSpentAt two 2 (Some 1) (Clause (yes 1 ∷ yes 1 ∷ []) (1 ∷ 2 ∷ []) ∷ []) → ⊥)
 unspent-steps = (
-  λ is. omega (arith, (All-front (IsQuietRow is.spent.quiet.0) (at_least 1 [] ∷ []) _ is.spent.quiet.1 0 (clause_row [])
-      (lit< tt)).no_conflict),
+  λ is. omega (
+    arith,
+    (All-front (IsQuietRow is.spent.quiet.0) (at_least 1 [] ∷ []) _ is.spent.quiet.1 0 (clause_row [])
+        (lit< tt)).no_conflict,
+  ),
   λ is. (is.tidy 0 one (lit< tt)).variables 0 1 (yes 1) (lit< tt) (lit< tt) refl,
 )
 

@@ -34,7 +34,9 @@ pub(crate) fn add_gaps(
     }
     for slot in 0..frame.slots {
         let row = add_games(alloc, &mut draft.writer, frame, slot)?;
-        draft.summands.add(penalty.saturating_mul(weight(frame, slot)), row)?;
+        draft
+            .summands
+            .add(penalty.saturating_mul(weight(frame, slot)), row)?;
     }
     Ok(())
 }

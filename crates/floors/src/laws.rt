@@ -27,7 +27,11 @@ pub(crate) fn least_cost(alloc: Global, league: &League) -> Result<u64, AllocErr
 ///
 /// # Errors
 /// Only where memory runs out.
-pub(crate) fn least_units(alloc: Global, league: &League, class: &Class) -> Result<u64, AllocError> {
+pub(crate) fn least_units(
+    alloc: Global,
+    league: &League,
+    class: &Class,
+) -> Result<u64, AllocError> {
     match class {
         Class::Br1 {
             teams,
@@ -58,7 +62,9 @@ fn missing_breaks(
     allowed: u64,
 ) -> Result<u64, AllocError> {
     let stretches = counted_stretches(alloc, league, slots)?;
-    let needed = teams.saturating_sub(2).saturating_mul(stretches.len() as u64);
+    let needed = teams
+        .saturating_sub(2)
+        .saturating_mul(stretches.len() as u64);
     Ok(needed.saturating_sub(allowed))
 }
 

@@ -18,7 +18,9 @@ impl Windows {
     pub(crate) fn row(self, frame: Frame, length: u16, before: u16) -> u64 {
         let start = frame.n.saturating_sub(1).saturating_sub(before);
         let longer = self.rows_above(u64::from(length));
-        self.first.saturating_add(longer).saturating_add(u64::from(start))
+        self.first
+            .saturating_add(longer)
+            .saturating_add(u64::from(start))
     }
 
     /// The rows of the next two teams.
