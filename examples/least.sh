@@ -5,6 +5,7 @@
 #
 # Each call of `prove` may learn at most CONFLICTS clauses (all where nothing is said). It says where it stands after each, and
 # leaves the best season in NAME.xml. Where that is shown to be the least, the certificate is in NAME.log, which `bound` checks.
+# Where the budget is spent, it says below which number no season costs, and NAME.log has a certificate of that, unless it is 0.
 # The exit status is that of the last call: 0 at the least, 5 where the budget is spent, 1 where the first season isn't accepted.
 set -u
 if [ $# -lt 3 ]; then
@@ -31,8 +32,12 @@ while true; do
       exit 0
       ;;
     5)
+      floor=$(sed -n '2s/^bound //p' "$answer")
+      if [ "$floor" != 0 ]; then
+        sed '1d;/^end$/q' "$answer" >"$name.log"
+      fi
       rm "$answer"
-      echo "open: the budget of $conflicts conflicts is spent"
+      echo "open: the budget of $conflicts conflicts is spent, and no accepted season costs less than $floor"
       exit 5
       ;;
     *)
