@@ -315,7 +315,8 @@ async function proveLeast(own) {
   else if (answer.status === 1) say('The season is not accepted, so there is nothing to compare.', 'no', 'The text below is its report.');
   else if (answer.status === 5) {
     const [, cost, floor] = answer.text.match(/^objective (\d+)\nbound (\d+)\n/);
-    say(`This season costs ${cost}, and none costs less than ${floor}.`, '', 'The budget is spent. The text below proves the second number.');
+    if (floor === '0') say('Neither a cheaper season was found nor a proof that there is none.', '', 'The budget is spent.');
+    else say(`This season costs ${cost}, and none costs less than ${floor}.`, '', 'The budget is spent. The text below proves the second number.');
   } else say(refusalOf(answer), 'no', answer.told.trim());
   return 'Done.';
 }
