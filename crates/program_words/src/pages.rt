@@ -266,8 +266,8 @@ at once.
 Status:  0  no accepted season costs less: the certificate proves it
          1  the season isn't accepted, and the report says why
          3  a file is refused, or the league is too large
-         5  the budget is spent: the season's objective, a certificate of a floor
-            (none costs less than that), and the log of what was learnt
+         5  the budget is spent: the season's objective, the certificate of
+            a floor (none costs less than that), and the log of what was learnt
          6  a file can't be read
          7  the text can't be written
          8  memory ran out
