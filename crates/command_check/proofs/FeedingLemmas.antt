@@ -84,14 +84,14 @@ pub checked-none : (at : Place) (old : Judged) → ChecksOn at old [] at old 0
 checked-none at old = record { steps = []; read = λ rest. refl; judged = refl; counted = refl }
 
 -- a piece
-pub checked-piece : (before now : Place) (none steps : List Step) (old new : Judged) (piece : List ℕ) → none ≡ [] → ReadsOn before none piece now steps → new ≡ fold after_step old steps
+unfoldable pub checked-piece : (before now : Place) (none steps : List Step) (old new : Judged) (piece : List ℕ) → none ≡ [] → ReadsOn before none piece now steps → new ≡ fold after_step old steps
     → ChecksOn before old piece now new (length steps)
 checked-piece before now none steps old new piece empty reads judged =
     let all : steps ≡ reads.added = reads.steps ∙ ap (λ l. l ++ reads.added) empty in
     record { steps = reads.added; read = reads.read; judged = judged ∙ ap (fold after_step old) all; counted = ap length all }
 
 -- one more piece
-pub checked-then : (a b c : Place) (s t u : Judged) (front piece : List ℕ) (m n : ℕ) → ChecksOn a s front b t m → ChecksOn b t piece c u n → ChecksOn a s (front ++ piece) c u (m + n)
+unfoldable pub checked-then : (a b c : Place) (s t u : Judged) (front piece : List ℕ) (m n : ℕ) → ChecksOn a s front b t m → ChecksOn b t piece c u n → ChecksOn a s (front ++ piece) c u (m + n)
 checked-then a b c s t u front piece m n first second = record {
   steps = first.steps ++ second.steps;
   read = λ rest.

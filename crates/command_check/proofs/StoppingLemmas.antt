@@ -28,6 +28,7 @@ take-past {X} (x ∷ xs) ys k =
 pub some-piece : (before now : Place) (none steps : List Step) (old new : Judged) (piece : List ℕ) → none ≡ []
     → ReadsOn before none piece now steps
     → ((k : ℕ) × (k ≤ length steps) × (new ≡ fold after_step old (take k steps))) → ChecksSome before old piece new
+unfolding checked-piece
 some-piece before now none steps old new piece empty reads some =
     let whole = checked-piece before now none steps old (fold after_step old steps) piece empty reads refl in
     let same : steps ≡ whole.steps = reads.steps ∙ ap (λ (l : List Step). l ++ reads.added) empty in
@@ -44,6 +45,7 @@ some-piece before now none steps old new piece empty reads some =
 -- those of one more piece
 pub some-then : (a b : Place) (s t u : Judged) (front piece : List ℕ) (m : ℕ) → ChecksOn a s front b t m
     → ChecksSome b t piece u → ChecksSome a s (front ++ piece) u
+unfolding checked-then
 some-then a b s t u front piece m first second = record {
   now = second.now;
   whole = second.whole;

@@ -96,9 +96,10 @@ fn verdict_on(
     checker: &Checker,
     steps: usize,
 ) -> Result<Reply, NoValue>
-    ensures { (rows : List Row) (vars : ℕ) (bytes : List ℕ)
+    ensures verdict { (rows : List Row) (vars : ℕ) (bytes : List ℕ)
         → ChecksOn start (no_step_of rows vars) bytes feed checker.now steps
         → Answers (says_log (log_of bytes) (IsVerdictOver rows vars)) result }
+    ensures roomy { IsErrOf result NoValue.Room → ⊥ }
 {
     match feed.finish() {
         Ok(()) => Ok(verdict_reply(alloc, steps, checker.verdict())?),

@@ -24,4 +24,4 @@ returns-clause-answer g c = λ rows vars none.
     Answers-wider _ _
     (log-file (store.contents c.args.name.now) (store.took_more most_log_bytes) (store.failed c.args.name.now)
     (λ bytes. says_log (log_of bytes) (IsVerdictOver rows vars)) file.bytes file.file)
-    c.verdict_on.result (c.verdict_on.ensures rows vars file.bytes from_none)
+    c.verdict_on.result (c.verdict_on.ensures.verdict rows vars file.bytes from_none)

@@ -2,14 +2,14 @@ use Rattle.answers.specs.SeenReply.{answer_of}
 use Rattle.command_check.proofs.StageLemmas.{ended-verdict, faulty-log}
 use Rattle.command_check.proofs.stages.verdict_on.Goals as goal
 
-pub returns-in_ok-verdict_reply-in-Ok : goal.returns-in_ok-verdict_reply-in-Ok
-returns-in_ok-verdict_reply-in-Ok c = λ rows vars bytes checked.
+pub returns-in_ok-verdict_reply-in-Ok-clause-verdict : goal.returns-in_ok-verdict_reply-in-Ok-clause-verdict
+returns-in_ok-verdict_reply-in-Ok-clause-verdict c = λ rows vars bytes checked.
     ended-verdict rows vars bytes c.args.feed c.args.checker.now c.args.steps c.verdict.result
     (answer_of c.in_ok-verdict_reply-in-Ok.field-0) checked c.in-Ok.ensures c.verdict.ensures
     c.in_ok-verdict_reply-in-Ok.ensures
 
-pub returns-in_ok-log_refused-in-Err-Form : goal.returns-in_ok-log_refused-in-Err-Form
-returns-in_ok-log_refused-in-Err-Form c = λ rows vars bytes checked.
+pub returns-in_ok-log_refused-in-Err-Form-clause-verdict : goal.returns-in_ok-log_refused-in-Err-Form-clause-verdict
+returns-in_ok-log_refused-in-Err-Form-clause-verdict c = λ rows vars bytes checked.
     faulty-log rows vars bytes c.args.feed c.args.checker.now c.args.steps c.in-Err-Form.kind c.in-Err-Form.line
     (answer_of c.in_ok-log_refused-in-Err-Form.field-0.reply) checked (rw c.in-Err-Form.field-0-is at c.in-Err-Form.ensures)
     c.in_ok-log_refused-in-Err-Form.ensures
