@@ -1,5 +1,5 @@
 -- What follows from an answer of `prove`.
-use Rattle.std.proofs.Common.{◌∷◌, [], ◌≡◌, ℕ, ◌+◌, List, length, Option, Some, Ok, codes, ap, true, inl, inr, sym, subst, ◌∙◌}
+use Rattle.std.proofs.Common.{◌∷◌, [], ◌≡◌, ◌⊎◌, ℕ, ◌+◌, List, length, Option, Some, Ok, codes, ap, true, inl, inr, sym, subst, ◌∙◌}
 use Rattle.std.proofs.Common.{Bool, false, if◌then◌else◌}
 use Rattle.std.specs.Prelude.{IfSome, IsTrue}
 use Rattle.robin_io.specs.Outside.{Store}
@@ -135,16 +135,21 @@ shown-no league conflicts games answer (inr (inr (inl h))) is accepted =
 shown-no league conflicts games answer (inr (inr (inr h))) is accepted =
     let same : Spent ≡ No = other Spent No answer h.status is in cc
 
+-- what is left of four cases
+fourth : {A B C D : Type 0} → A ⊎ (B ⊎ (C ⊎ D)) → (A → ⊥) → (B → ⊥) → (C → ⊥) → D
+fourth (inl h) a b c = absurd (a h)
+fourth (inr (inl h)) a b c = absurd (b h)
+fourth (inr (inr (inl h))) a b c = absurd (c h)
+fourth (inr (inr (inr h))) a b c = h
+
 shown-spent : {may_stop : Type 0} (league : Instance) (conflicts : Option ℕ) (games : List Game) (answer : Answer)
     → IsShown league conflicts may_stop games answer → answer.status ≡ Spent
     → IsSpentBelow league conflicts may_stop games answer
-shown-spent league conflicts games answer (inl h) is =
-    let same : No ≡ Spent = other No Spent answer h.status is in cc
-shown-spent league conflicts games answer (inr (inl h)) is =
-    let same : Yes ≡ Spent = other Yes Spent answer h.status is in cc
-shown-spent league conflicts games answer (inr (inr (inl h))) is =
-    let same : Better ≡ Spent = other Better Spent answer h.status is in cc
-shown-spent league conflicts games answer (inr (inr (inr h))) is = h
+shown-spent league conflicts games answer shown is =
+    fourth shown
+    (λ h. let same : No ≡ Spent = other No Spent answer h.status is in cc)
+    (λ h. let same : Yes ≡ Spent = other Yes Spent answer h.status is in cc)
+    (λ h. let same : Better ≡ Spent = other Better Spent answer h.status is in cc)
 
 pub shown-refused : {may_stop : Type 0} (league : Instance) (conflicts : Option ℕ) (games : List Game) (answer : Answer)
     → (IsAccepted league (counts_of games) → ⊥) → IsShown league conflicts may_stop games answer → answer.status ≡ No
