@@ -224,9 +224,11 @@ spent-read = refl
 
 -- that no schedule costs less than 0 needs no log
 floor-none : IsCertified even_soon 0 []
+unfolding digits
 floor-none = record { least = λ m accepted. omega arith; proves = refl; reads_back = refl }
 
 pub spent-none : IsSpentBelow even_soon (Some 0) ⊥ zero_first spent
+unfolding digits
 spent-none = record {
   steps = [];
   bound = 0;
@@ -328,7 +330,8 @@ proved-rejected = record { answer = report; of_kind = inl rejected-twice; ended 
 pub proved-better : Writes (ended_with Better (Some []) (Some better_file)) (IsShown away_first None ⊥ zero_first)
 proved-better = record { answer = bettered; of_kind = inr (inr (inl bettered-zero)); ended = refl; written = refl }
 
-pub proved-spent : Writes (ended_with Spent (Some []) (Some (codes "refutation 1\nend\n"))) (IsShown even_soon (Some 0) ⊥ zero_first)
+pub proved-spent : Writes (ended_with Spent (Some []) (Some (codes "objective 4\nbound 0\nrefutation 1\nend\n")))
+    (IsShown even_soon (Some 0) ⊥ zero_first)
 proved-spent = record { answer = spent; of_kind = inr (inr (inr spent-none)); ended = refl; written = refl }
 
 -- a schedule that isn't accepted is told so

@@ -5,18 +5,18 @@ use Rattle.clause_search.proofs.SearchLemmas.{AreNews-one, keeps-few}
 use Rattle.clause_search.proofs.TurnLemmas.{All-front}
 use Rattle.std.proofs.Common.{◌≡◌, ◌≢◌, ℕ, zero, suc, ◌+◌, ◌<◌, ◌≤◌, List, [], ◌∷◌, get_or, map, Some}
 use Rattle.std.proofs.Common.{◌++◌, None, Ok, Err, true, false, length, length-append, refl, ap, arith, lit<, lit≤}
-use Rattle.std.proofs.Common.{subst, sym, ◌^◌}
+use Rattle.std.proofs.Common.{subst, sym, ◌^◌, ◌∙◌}
 use Rattle.std.specs.Prelude.{Contains}
 use Rattle.std.proofs.lemmas.List.Elements.{All-from_recursion}
 use Rattle.rows.specs.Cardinality.{at_least}
 use Rattle.rows.specs.Literals.{Literal, yes, no}
 use Rattle.rows.specs.Rows.{Row, Satisfies}
-use Rattle.rows.specs.Partials.{IsQuiet, IsQuietRow, reach, value_of}
+use Rattle.rows.specs.Partials.{IsEmpowering, IsQuiet, IsQuietRow, reach, value_of}
 use Rattle.rows.specs.Values.{assigned, valued}
 use Rattle.rows.specs.declared.lit.Term.{Term}
 use Rattle.rows.specs.declared.partial.Value.{Value}
 use Rattle.rows.specs.declared.partial.Value.TheVariants.{True, False, Free}
-use Rattle.refutation.specs.Steps.{Step}
+use Rattle.refutation.specs.Steps.{Step, clause_of}
 use Rattle.refutation.specs.Steps.Step.{Clause}
 use Rattle.refutation.specs.Following.{all_free, clause_row}
 use Rattle.refutation.specs.declared.verdict.Cause.{Cause}
@@ -25,7 +25,7 @@ use Rattle.refutation.specs.declared.verdict.Verdict.TheVariants.{Accepted, Reje
 use Rattle.propagate.specs.Trails.{IsForcedBy, IsLawful, NamesConflict, level_of, values_of}
 use Rattle.propagate.specs.declared.entry.Entry.{Entry}
 use Rattle.clause_search.specs.Answers.{IsAnswer, IsSpentAt, Refutes}
-use Rattle.clause_search.specs.News.{AreNews, IsNews, IsSpent, IsTidy}
+use Rattle.clause_search.specs.News.{AreNews, IsNews, IsSpent, IsTidy, row_of}
 use Rattle.clause_search.specs.declared.found.Found.TheVariants.{Sat}
 
 -- ---- a clause of two literals is quiet where 2 are within reach, one of one literal where it is true
