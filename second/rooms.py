@@ -276,6 +276,9 @@ def room_words(t):
             t.answers([*door.words, absent, "--room", value], 6, "read fault log\n")
             empty = t.path("empty.log", door.head.encode(), b"refutation 1\nend\n")
             t.answers([*door.words, empty, "--room", value], 1, "rejected step 0 cause NoEmptyClause\n")
+            if door.words[0] == "bound":
+                nothing = t.path("nothing.log", b"bound 0\n")
+                t.answers([*door.words, nothing, "--room", value], 0, "accepted bound 0 steps 0\n")
     unroomed(t, absent)
 
 
