@@ -137,7 +137,8 @@ def floors_made(t):
                 floored(t, instance, it, best, path, ran, n <= 6)
             t.must(ran.status in (0, 5), "made", n, seed, ran.status, files=[it, path])
             for draw in range(3):
-                found = t.run("solve", it, "--seed", str(draw), "--moves", "400", "--conflicts", "0", seconds=600)
+                far = ["--moves", "4000" if n <= 10 else "400", "--tries", "2"]
+                found = t.run("solve", it, "--seed", str(draw), "--conflicts", "0", *far, seconds=600)
                 if found.status == 0:
                     end = found.out.index(b"</Solution>\n") + 12
                     fault, _, cost = season_fault(league, found.out[:end])
