@@ -137,7 +137,8 @@ def floors_made(t):
                 floored(t, instance, it, best, path, ran, n <= 6)
             t.must(ran.status in (0, 5), "made", n, seed, ran.status, files=[it, path])
             for draw in range(3):
-                found = t.run("solve", it, "--seed", str(draw), "--moves", "400", "--conflicts", "0", seconds=600)
+                far = ["--moves", "4000" if n <= 10 else "400", "--tries", "2"]
+                found = t.run("solve", it, "--seed", str(draw), "--conflicts", "0", *far, seconds=600)
                 if found.status == 0:
                     end = found.out.index(b"</Solution>\n") + 12
                     fault, _, cost = season_fault(league, found.out[:end])
@@ -245,19 +246,19 @@ def stands(t):
 
 
 def floors_large(t):
-    """Leagues of 40 teams: how long the floor takes behind a budget of no conflict, and how much memory."""
-    for n, seed in ((20, 1), (30, 1), (40, 1), (40, 2)):
-        season = t.path("large-season.xml", t.run("circle", str(n)).out)
-        instance = t.run("make", str(n), str(seed)).out
-        it = t.path("large.xml", instance)
-        for words in (["--seconds", "1"], ["--seconds", "1", "--conflicts", "0"]):
-            ran = t.run("prove", it, season, *words, seconds=1200, memory=8192)
-            t.must(ran.status in (5, 9), n, seed, ran.status, ran.out[:99])
-            shown_text = b" ".join(ran.out.split(b"\n", 2)[:2]).decode() if ran.status == 5 else ""
-            print(f"    make {n} {seed} {' '.join(words)}: status {ran.status} {shown_text}, {ran.seconds:.1f} s, ", end="")
-            print(f"{ran.clock:.1f} s by the clock, peak {ran.peak:.0f} MiB, {len(ran.out)} bytes", flush=True)
-            if ran.status == 9:
-                season = t.path("large-season.xml", ran.out)
+    """Large leagues: what the floor takes, of time and of memory, where the run has no second and no conflict."""
+    leagues_of = [(n, t.run("make", str(n), "1").out) for n in (20, 24, 28)]
+    teams = ";".join(map(str, range(40)))
+    wide = f'<BR2 teams="{teams}" intp="3" slots="{";".join(map(str, range(78)))}" type="SOFT" penalty="7"/>'
+    far = '<SE1 teams="%s" min="31" type="SOFT" penalty="9"/>'
+    some = ";".join(map(str, range(32)))
+    leagues_of += [(40, instance_text(40, True, [wide])), (32, instance_text(32, True, [far % some]))]
+    for n, instance in leagues_of:
+        season, it = t.path("large-season.xml", t.run("circle", str(n)).out), t.path("large.xml", instance)
+        ran = t.run("prove", it, season, "--seconds", "0", "--conflicts", "0", seconds=1200, memory=8192)
+        law = floor_of(league_of(instance)[0])
+        t.must(ran.status == 5 and b"\nbound %d\n" % law in ran.out[:99], n, law, ran.status, ran.out[:99])
+        print(f"    {n} teams: floor {law}, {ran.seconds:.1f} s, peak {ran.peak:.0f} MiB, {len(ran.out)} bytes", flush=True)
 
 
 GROUPS = [floors_made, floors_drawn]
