@@ -8,7 +8,8 @@ use league::{ClassName, Constraint};
 pub(crate) enum Weighing {
     /// The hard constraints alone.
     Hard,
-    /// The hard constraints alone, each with a weight that grows by this part of it while it isn't met, and never falls.
+    /// The hard constraints alone, each with a weight that grows by this part of it while it isn't met, and doesn't
+    /// fall.
     Slow(u32),
     /// All constraints together: a soft one by its penalty, and each unit of a hard one's penalty by at least so much.
     Together(u32),
@@ -20,6 +21,11 @@ impl Weighing {
 
     /// All constraints together, where no soft one makes up for a hard one.
     pub(crate) const STRICT: Weighing = Weighing::Together(u32::MAX);
+
+    /// Whether weights grow slowly and never fall.
+    pub(crate) fn is_slow(self) -> bool {
+        matches!(self, Weighing::Slow(_))
+    }
 
     /// The weight at the start of a constraint's parts, if they are weighed.
     pub(crate) fn weight(self, constraint: &Constraint) -> Option<Weight> {
