@@ -17,18 +17,24 @@ const ENOUGH: u64 = 10_000_000;
 /// The searches before the one with this number don't cool.
 const FIRST: u64 = 2;
 
-/// How cold a walk is at its start, in tenths: a unit of a constraint's penalty weighs ten.
-const WARM: u64 = 3;
+/// How cold a walk is at its start, in tenths: a unit of a constraint's penalty weighs ten at first.
+const WARM: u64 = 6;
 
 /// How cold a walk is at its end, likewise.
-const COLD: u64 = 20;
+const COLD: u64 = 16;
 
-/// The heat of a walk's thresholds, in 256ths, times how cold it is.
-const UNIT: u64 = 17_740;
+/// The heat of a walk's thresholds, in 256ths of 256ths, times how cold it is.
+const UNIT: u64 = 4_541_440;
+
+/// A weight grows by at most this part of it at the end of a stretch.
+const GROWTH: u64 = 80;
+
+/// So many moves of a walk for each unit of that part, so that weights grow as much in a longer walk.
+const SPREAD: u64 = 125_000;
 
 impl Walker {
-    /// In a long walk, walks on the hard constraints by weights that stay and at a heat that falls slowly, until four
-    /// fifths of the moves that are left are tried, the hard constraints are met, or the watch ends the walk: in a
+    /// In a long walk, walks on the hard constraints by weights that grow slowly and at a heat that falls slowly, until
+    /// four fifths of the moves that are left are tried, the hard constraints are met, or the watch ends the walk: in a
     /// search with this number. The best games at the end of a stretch are kept.
     ///
     /// # Errors
@@ -50,7 +56,7 @@ impl Walker {
         }
         let moves = (self.left / 5).saturating_mul(4);
         let end = self.left.saturating_sub(moves);
-        let mut parts = WeighedParts::new(alloc, league, Weighing::Steady)?;
+        let mut parts = WeighedParts::new(alloc, league, Weighing::Slow(growth(moves)))?;
         'stretches: for _stretch in 0..moves / STRETCH + 1000 {
             if self.left <= end || self.is_over(watch) {
                 return Ok(());
@@ -75,4 +81,9 @@ fn heat(moves: u64, left: u64) -> u64 {
         .saturating_mul(left)
         .saturating_add(COLD.saturating_mul(done));
     UNIT.saturating_mul(moves) / cold.max(1)
+}
+
+/// By which part of it a weight grows at the end of a stretch of a walk of so many moves.
+fn growth(moves: u64) -> u32 {
+    u32::try_from((moves / SPREAD).max(GROWTH)).unwrap_or(u32::MAX)
 }

@@ -49,8 +49,9 @@ impl Part {
 }
 
 /// The parts of a league's constraints with their weights, those of hard constraints that aren't met, what all weigh
-/// together on the games that they follow, and how much that may be at the goal of a walk. A move asks only those parts
-/// that its games, venues and breaks can change.
+/// together on the games that they follow, and how much that may be at the goal of a walk. In a walk that cools slowly
+/// the goal is that fewer parts are unmet than at the end of any stretch. A move asks only those parts that its games,
+/// venues and breaks can change.
 #[derive(Drop)]
 pub(crate) struct WeighedParts {
     demands: Vec<Constraint>,
@@ -62,6 +63,7 @@ pub(crate) struct WeighedParts {
     unmet: NumberSet,
     sum: u64,
     goal: u64,
+    fewest: Option<usize>,
 }
 
 impl WeighedParts {
@@ -96,6 +98,11 @@ impl WeighedParts {
             unmet,
             sum: 0,
             goal: u64::MAX,
+            fewest: if weighing.is_slow() {
+                Some(usize::MAX)
+            } else {
+                None
+            },
         })
     }
 
@@ -300,9 +307,10 @@ impl WeighedParts {
         self.parts.len() < MOST
     }
 
-    /// Whether all parts of hard constraints are met, and all parts weigh little enough.
+    /// Whether few enough parts of hard constraints are unmet, mostly none, and all parts weigh little enough.
     pub(crate) fn are_at_goal(&self) -> bool {
-        self.unmet.numbers().is_empty() && self.sum <= self.goal
+        let fewest = self.fewest.unwrap_or(1).max(1);
+        self.unmet.numbers().len() < fewest && self.sum <= self.goal
     }
 
     /// From now on all parts weigh little enough where it is at most so much.
@@ -324,8 +332,11 @@ impl WeighedParts {
         sum
     }
 
-    /// Makes each weight greater or smaller by whether its part is met.
+    /// At the end of a stretch, makes each weight greater or smaller by whether its part is met.
     pub(crate) fn adapt(&mut self) {
+        if let Some(fewest) = self.fewest {
+            self.fewest = Some(fewest.min(self.unmet.numbers().len()));
+        }
         for part in self.parts.iter_mut() {
             part.weight = part.weight.adapted(part.deviation == 0);
         }

@@ -1,5 +1,5 @@
 //! Weights of constraints' parts. Those of hard constraints grow while a part isn't met. Such weights are those of the
-//! breakout method (Morris 1993); here they also fall.
+//! breakout method (Morris 1993); here most of them also fall.
 
 use league::{ClassName, Constraint};
 
@@ -8,8 +8,9 @@ use league::{ClassName, Constraint};
 pub(crate) enum Weighing {
     /// The hard constraints alone.
     Hard,
-    /// The hard constraints alone, each with the weight that it has at the start.
-    Steady,
+    /// The hard constraints alone, each with a weight that grows by this part of it while it isn't met, and doesn't
+    /// fall.
+    Slow(u32),
     /// All constraints together: a soft one by its penalty, and each unit of a hard one's penalty by at least so much.
     Together(u32),
 }
@@ -21,6 +22,11 @@ impl Weighing {
     /// All constraints together, where no soft one makes up for a hard one.
     pub(crate) const STRICT: Weighing = Weighing::Together(u32::MAX);
 
+    /// Whether weights grow slowly and never fall.
+    pub(crate) fn is_slow(self) -> bool {
+        matches!(self, Weighing::Slow(_))
+    }
+
     /// The weight at the start of a constraint's parts, if they are weighed.
     pub(crate) fn weight(self, constraint: &Constraint) -> Option<Weight> {
         if let Weighing::Together(unit) = self {
@@ -30,16 +36,15 @@ impl Weighing {
             return None;
         }
         let weight = Weight::alone(constraint);
-        Some(if matches!(self, Weighing::Steady) {
-            weight.steady()
-        } else {
-            weight
+        Some(match self {
+            Weighing::Slow(growth) => weight.slow(growth),
+            Weighing::Hard | Weighing::Together(_) => weight,
         })
     }
 }
 
 /// What a unit of the deviation of a constraint's part weighs now, at least and at most, by which part of it the weight
-/// grows, and the penalty, which is 0 of a soft constraint.
+/// grows and by which it falls, and the penalty, which is 0 of a soft constraint.
 #[derive(Clone, Copy)]
 pub(crate) struct Weight {
     penalty: u32,
@@ -47,6 +52,7 @@ pub(crate) struct Weight {
     now: u32,
     most: u32,
     growth: u32,
+    fall: u32,
 }
 
 /// How many times its penalty the unit of a weight is, by the class of the constraint: more where few games are left to
@@ -70,14 +76,19 @@ impl Weight {
             now: unit.saturating_mul(10),
             most: unit.saturating_mul(80),
             growth: 8,
+            fall: 16,
         }
     }
 
-    /// A weight that stays as it is.
-    fn steady(self) -> Weight {
+    /// In 256ths, a weight that grows by this part of it, to at most five times as much, and never falls.
+    fn slow(self, growth: u32) -> Weight {
+        let now = self.now.saturating_mul(256);
         Weight {
-            least: self.now,
-            most: self.now,
+            least: now,
+            now,
+            most: now.saturating_mul(5),
+            growth,
+            fall: u32::MAX,
             ..self
         }
     }
@@ -92,6 +103,7 @@ impl Weight {
                 now: constraint.penalty,
                 most: constraint.penalty,
                 growth: 1,
+                fall: 2,
             };
         }
         let penalty = constraint.penalty.max(1);
@@ -102,17 +114,19 @@ impl Weight {
             now: least,
             most: u32::MAX,
             growth: 3,
+            fall: 6,
         }
     }
 
-    /// An eighth or a third more where the part isn't met, else half of that less.
+    /// More where the part isn't met, else less.
     pub(crate) fn adapted(self, met: bool) -> Weight {
-        let part = self.now / self.growth.max(1);
         let now = if met {
-            self.now.saturating_sub(part / 2).max(self.least)
+            let less = self.now / self.fall.max(1);
+            self.now.saturating_sub(less).max(self.least)
         } else {
+            let more = self.now / self.growth.max(1);
             self.now
-                .saturating_add(part)
+                .saturating_add(more)
                 .saturating_add(1)
                 .min(self.most)
         };
