@@ -6,6 +6,8 @@ use Rattle.league.specs.declared.class.Class.{Class}
 use Rattle.league.specs.declared.class.Constraint.{Constraint}
 use Rattle.rows.specs.Rows.{Row}
 use Rattle.encoding_base.specs.Encoding.{class_rows}
+use Rattle.encoding_base.specs.Keys.{Bounded, key_of, places_of, subjects_of}
+use Rattle.encoding_base.specs.declared.subjects.Subject.{Subject}
 use Rattle.bound_rows.specs.BoundRows.{paid_of, units_of}
 use Rattle.bound_rows.specs.Parts.{parts_of}
 
@@ -40,6 +42,16 @@ two_rows_size low beyond count =
 -- a group that bounds so many literals from low to high
 abbrev pub between_size : ℕ → ℕ → ℕ → ℕ
 between_size low high count = two_rows_size low (count - high) count
+
+-- the group of a key, those of a subject, and those of all subjects
+abbrev pub key_size : Bounded → ℕ
+key_size key = between_size key.low key.high (length key.literals)
+
+abbrev pub subject_size : ℕ → Class → Subject → ℕ
+subject_size n class subject = sum_by (λ place. key_size (key_of n class subject place)) (places_of n class)
+
+abbrev pub subjects_size : ℕ → Class → ℕ
+subjects_size n class = sum_by (subject_size n class) (subjects_of class)
 
 -- the group of two teams of an FA2: at each slot two rows, each with two literals for each slot so far
 abbrev pub lead_units : ℕ → List ℕ → ℕ

@@ -3,12 +3,13 @@ ghost use Rattle.std.specs.Prelude.{◌≡◌, ◌+◌, ◌-◌, ◌*◌, ◌^�
 ghost use Rattle.bound_rows.specs.Sizes as sizes;
 
 /// How many terms a group has that bounds how many of `count` literals are true: from `low` to `high`.
-pub(crate) fn between_terms(low: u32, high: u32, count: u64) -> u64
-    requires { count ≤ 124800 }
+pub(crate) fn between_terms(low: u64, high: u64, count: u64) -> u64
+    requires low { low < 2 ^ 32 }
+    requires count { count ≤ 124800 }
     ensures terms { result ≡ sizes.between_size low high count }
     ensures most { result ≤ 22000000000 }
 {
-    two_rows_terms(u64::from(low), count.saturating_sub(u64::from(high)), count)
+    two_rows_terms(low, count.saturating_sub(high), count)
 }
 
 /// How many terms a group of two rows has. Both rows have `count` literals; their degrees are `low` and `beyond`. The

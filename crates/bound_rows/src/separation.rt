@@ -6,7 +6,7 @@ ghost use Rattle.league.specs.Names.{name_of};
 ghost use Rattle.bound_rows.specs.Parts as parts;
 ghost use Rattle.bound_rows.specs.Sizes as sizes;
 
-use encoding_sizes::pair_total;
+use encoding_base::pair_total;
 use league::{Class, ClassName, slot_count};
 
 /// How many terms the groups of an SE1 have: as many for each two of its teams.

@@ -1,16 +1,18 @@
 //! How many terms the groups of a class have, those of all its parts together: by the number of their literals.
-ghost use Rattle.std.specs.Prelude.{◌≡◌, ◌*◌, ◌≤◌, IsTrue};
+ghost use Rattle.std.specs.Prelude.{◌≡◌, ◌+◌, ◌≤◌, IsTrue};
+ghost use Rattle.league.specs.Counts as counts;
 ghost use Rattle.league.specs.Instance.{IsTeamCount, class_fits};
 ghost use Rattle.league.specs.Names.{name_of};
 ghost use Rattle.league.specs.Shapes.{has_bounds};
+ghost use Rattle.encoding_base.specs.Keys.{IsWithin, key_of, suits, width};
 ghost use Rattle.bound_rows.specs.Parts as parts;
 ghost use Rattle.bound_rows.specs.Sizes as sizes;
 
 use crate::groups::{between_terms, lead_terms};
 use crate::separation::se1_terms;
-use encoding_base::slot_numbers;
-use encoding_sizes::{Batch, batches_of, pair_total};
-use league::{Bounds, Class, ClassName};
+use encoding_base::{Subject, key_at, pair_total, places_of, slot_numbers, subject_at, subject_count};
+use encoding_sizes::literal_count;
+use league::{Class, ClassName};
 
 /// How many terms the groups of a class have that fits a league of n teams. The count takes no memory. It takes no
 /// longer if there are more terms.
@@ -27,8 +29,7 @@ pub(crate) fn class_terms(n: u16, class: &Class) -> u64
     }
 }
 
-/// How many terms the groups of a class have that bounds how many games or breaks there are: a group for each list of
-/// literals that the class bounds.
+/// How many terms the groups of a class have that bounds how many games or breaks there are: a group for each key.
 fn counted_terms(n: u16, class: &Class) -> u64
     requires n { IsTeamCount n }
     requires bounds { IsTrue (has_bounds class.now) }
@@ -36,19 +37,42 @@ fn counted_terms(n: u16, class: &Class) -> u64
     ensures terms { result ≡ sizes.parts_size n (parts.parts_of n class.now) }
     ensures most { result ≤ 600000000000000 }
 {
-    let bounds = class.bounds();
-    let batches = batches_of(n, class);
-    batch_terms(bounds, batches.first) + batch_terms(bounds, batches.second)
+    let mut total = 0;
+    for place in 0..subject_count(n, class) {
+        total += subject_terms(n, class, subject_at(n, class, place));
+    }
+    total
 }
 
-/// How many terms the groups of one batch have.
-fn batch_terms(bounds: Bounds, batch: Batch) -> u64
-    requires lists { batch.lists ≤ 3160 }
-    requires short { batch.literals ≤ 124800 }
-    ensures terms { result ≡ batch.lists * sizes.between_size bounds.min bounds.max batch.literals }
-    ensures most { result ≤ 70000000000000 }
+/// How many terms the groups of a subject have.
+fn subject_terms(n: u16, class: &Class, subject: Subject) -> u64
+    requires n { IsTeamCount n }
+    requires fits { IsTrue (class_fits n class.now) }
+    requires suits { IsTrue (suits class.now subject) }
+    requires within { IsWithin n subject }
+    ensures terms { result ≡ sizes.subject_size n class.now subject }
+    ensures most { result ≤ 1716000000000 }
 {
-    batch.lists * between_terms(bounds.min, bounds.max, batch.literals)
+    let places = places_of(n, class);
+    let mut total = 0;
+    for place in places {
+        total += key_terms(n, class, subject, *place);
+    }
+    total
+}
+
+/// How many terms the group of a key has.
+fn key_terms(n: u16, class: &Class, subject: Subject, place: u16) -> u64
+    requires n { IsTeamCount n }
+    requires fits { IsTrue (class_fits n class.now) }
+    requires suits { IsTrue (suits class.now subject) }
+    requires within { IsWithin n subject }
+    requires place { place + width n class.now ≤ counts.slot_count n }
+    ensures terms { result ≡ sizes.key_size (key_of n class.now subject place) }
+    ensures most { result ≤ 22000000000 }
+{
+    let key = key_at(n, class, subject, place);
+    between_terms(key.low, key.high, literal_count(n, key.counted))
 }
 
 /// How many terms the groups of an FA2 have: equally many for each two of its teams.

@@ -5,6 +5,7 @@ pub mod NumberLemmas
 -- Worked examples, so that a wrong definition does not check:
 pub mod EncodingFacts
 pub mod ClassRowFacts
+pub mod KeyFacts
 pub mod RowRangeFacts
 -- Which rows are whose:
 pub mod RowRangeLemmas
@@ -15,3 +16,7 @@ pub mod FewLemmas
 pub mod MemberLemmas
 -- The numbers of variables, read back:
 pub mod Places
+-- The rows of a class by its subjects, and which these are:
+pub mod KeyLaws
+pub mod SubjectLemmas
+pub mod HeldKeys

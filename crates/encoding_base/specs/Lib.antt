@@ -17,3 +17,5 @@ pub mod Shadow
 pub mod Ascending
 -- Pairs of teams:
 pub mod Pairs
+-- Every class's rows by keys, as they are written and counted:
+pub mod Keys

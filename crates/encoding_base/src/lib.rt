@@ -5,10 +5,14 @@
 //! rows group by group, and `specs/Encoding.antt` has all of them in order.
 #![tactic(auto)]
 
+mod keys;
 mod meetings;
 mod sets;
+mod subjects;
 mod variables;
 
-pub use meetings::{all_meetings, meetings_in_order, pairs_at_most, pairs_of};
-pub use sets::{is_between, meeting_numbers, slot_numbers, team_numbers, team_pairs};
+pub use keys::{Counted, Key, key_at};
+pub use meetings::{all_meetings, meetings_in_order, pairs_of};
+pub use sets::{is_between, meeting_numbers, pair_total, slot_numbers, team_numbers, team_pairs};
+pub use subjects::{Subject, places_of, subject_at, subject_count};
 pub use variables::{ab_at, h_at, h_count, has_breaks, hb_at, hb_count, x_at, x_count};

@@ -141,6 +141,6 @@ fn add_pairs_with(pairs: &mut Vec<(u16, u16)>, first: u16, later: &[u16]) -> Res
 }
 
 /// How many pairs so many teams have.
-pub fn pairs_at_most(teams: usize) -> usize {
+fn pairs_at_most(teams: usize) -> usize {
     teams.saturating_mul(teams.saturating_sub(1)) / 2
 }

@@ -1,5 +1,5 @@
 //! The sets of a constraint that fits a league: what their numbers are, and which meetings two of them have.
-ghost use Rattle.std.specs.Prelude.{◌≡◌, ◌<◌, ◌≤◌, length, IfOk, IsTrue};
+ghost use Rattle.std.specs.Prelude.{◌≡◌, ◌-◌, ◌*◌, ◌/◌, ◌<◌, ◌≤◌, length, IfOk, IsTrue};
 ghost use Rattle.std.specs.List.{All};
 ghost use Rattle.league.specs.Capacity as capacity;
 ghost use Rattle.league.specs.Counts.{slot_count};
@@ -57,6 +57,17 @@ pub fn team_pairs(alloc: Global, n: u16, teams: &TeamSet) -> Result<Vec<(u16, u1
     ensures few { IfOk result (λ pairs. length pairs.items ≤ 780) }
 {
     pairs_of(alloc, teams.numbers())
+}
+
+/// How many pairs the teams of a set have: at most 780. No pair is listed.
+pub fn pair_total(n: u16, teams: &TeamSet) -> u64
+    requires n { n ≤ 40 }
+    requires teams { IsTrue (are_teams n teams.now) }
+    ensures count { result ≡ length (meetings.pairs_of teams.now) }
+    ensures few { result ≤ 780 }
+{
+    let total = team_numbers(n, teams).len() as u64;
+    total * total.saturating_sub(1) / 2
 }
 
 /// Whether a meeting is one of some teams with others, where the side is that of the first: two look-ups, or four for

@@ -3,18 +3,24 @@ use Rattle.std.proofs.Common.{◌≢◌, ℕ, ◌+◌, ◌-◌, ◌*◌, ◌<◌
 use Rattle.std.proofs.Common.{arith, inl, inr}
 use Rattle.std.proofs.Math.Nat.{mul-le-mul_right}
 use Rattle.std.proofs.lemmas.Bool.{cases_lt, le-ltb, lt-ltb}
-use Rattle.std.specs.List.{AllPairs, flat_map}
+use Rattle.std.specs.List.{AllPairs, filter, flat_map}
+use Rattle.league.specs.Capacity.{is_between}
 use Rattle.league.specs.Counts.{slot_count}
+use Rattle.league.specs.Meetings.{meetings_of}
 use Rattle.league.specs.declared.class.Side.{Side}
 use Rattle.league.specs.declared.class.Side.TheVariants.{H, A, Both}
 use Rattle.rows.specs.Literals.{Literal, no, yes}
 use Rattle.encoding_base.specs.Ascending.{AreMeetings, AreSlots, AreTeams, AscendsBy, place_of}
 use Rattle.encoding_base.specs.Lists.{after_first, at_home_in, away_breaks_at, away_in, breaks_in, games_in}
-use Rattle.encoding_base.specs.Lists.{home_breaks_at, venues_in}
+use Rattle.encoding_base.specs.Keys.{IsListable, literals_of}
+use Rattle.encoding_base.specs.Lists.{home_breaks_at, meetings_in_order, venues_in}
 use Rattle.encoding_base.specs.Variables.{ab_var, h_count, h_var, hb_count, hb_var, x_count, x_var}
+use Rattle.encoding_base.specs.declared.keys.Counted.{Counted}
+use Rattle.encoding_base.specs.declared.keys.Counted.TheVariants.{Venues, Against, Between, Games, Breaks, AllBreaks, Lead}
 use Rattle.encoding_base.proofs.AscendLemmas.{AllPairs-ascending, AscendsBy-append, AscendsBy-blocks}
 use Rattle.encoding_base.proofs.AscendLemmas.{AscendsBy-flat_map, AscendsBy-high, AscendsBy-low}
 use Rattle.encoding_base.proofs.AscendLemmas.{AscendsBy-map, AscendsBy-same, AscendsBy-shift}
+use Rattle.encoding_base.proofs.MeetingOrder.{AreMeetings-all, AreMeetings-filter, AreMeetings-in_order}
 
 abbrev var_of : Literal → ℕ
 var_of l = l.var
@@ -126,11 +132,6 @@ pub lead_differ : (n i j : ℕ) (slots : List ℕ) → i < j → AreSlots n slot
     → AllPairs (λ l m. l.var ≢ m.var) (away_in n i slots ++ at_home_in n j slots)
 lead_differ n i j slots before are = differ (home_base n i) (away_in n i slots ++ at_home_in n j slots)
     (home_base n (j + 1)) (lead_ascend n i j slots before are)
-
-pub lead_back_differ : (n i j : ℕ) (slots : List ℕ) → i < j → AreSlots n slots
-    → AllPairs (λ l m. l.var ≢ m.var) (at_home_in n i slots ++ away_in n j slots)
-lead_back_differ n i j slots before are = differ (home_base n i) (at_home_in n i slots ++ away_in n j slots)
-    (home_base n (j + 1)) (lead_back_ascend n i j slots before are)
 
 -- ---- breaks
 
@@ -254,3 +255,19 @@ all_breaks_differ n teams slots are_teams are_slots =
     differ (home_break_base n 0)
     (flat_map (λ i. home_breaks_at n i slots) teams ++ flat_map (λ i. away_breaks_at n i slots) teams)
     (away_break_base n n) (all_breaks_ascend n teams slots are_teams are_slots)
+
+-- ---- what a key counts
+
+pub literals_differ : (n : ℕ) (counted : Counted) → IsListable n counted
+    → AllPairs (λ l m. l.var ≢ m.var) (literals_of n counted)
+literals_differ n (Venues team side slots) fit = venues_differ n side team slots.now fit.1
+literals_differ n (Against team opponents side slots) fit =
+    games_differ n (meetings_in_order side team opponents.now) slots.now
+    (AreMeetings-in_order n side team opponents.now fit.0 fit.1) fit.2
+literals_differ n (Between teams1 teams2 side slots) fit =
+    games_differ n (filter (is_between side teams1.now teams2.now) (meetings_of n)) slots.now
+    (AreMeetings-filter n (is_between side teams1.now teams2.now) (meetings_of n) (AreMeetings-all n)) fit
+literals_differ n (Games meetings slots) fit = games_differ n meetings.now slots.now fit.0 fit.1
+literals_differ n (Breaks team side slots) fit = breaks_differ n side team slots.now fit.0 fit.1
+literals_differ n (AllBreaks teams slots) fit = all_breaks_differ n teams.now slots.now fit.0 fit.1
+literals_differ n (Lead first second slots) fit = lead_differ n first second slots.now fit.0.order fit.1

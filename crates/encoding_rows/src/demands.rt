@@ -1,25 +1,22 @@
 //! The rows of a class of constraints, key by key, without those that demand nothing.
-ghost use Rattle.std.specs.Prelude.{◌≡◌, ◌≢◌, ◌+◌, ◌^◌, ◌<◌, ◌≤◌, [], ◌∷◌, ◌++◌, length, IsTrue, OnOk};
+ghost use Rattle.std.specs.Prelude.{◌≡◌, ◌≢◌, ◌+◌, ◌*◌, ◌^◌, ◌<◌, ◌≤◌, [], ◌∷◌, ◌++◌, length, IsTrue, OnOk};
 ghost use Rattle.std.specs.List.{AllPairs, filter};
 ghost use Rattle.league.specs.Instance.{IsTeamCount, class_fits};
+ghost use Rattle.league.specs.Meetings.{meetings_of};
 ghost use Rattle.rows.specs.Cardinality.{at_least, at_most, between};
-ghost use Rattle.encoding_base.specs.Ascending.{AreMeetings, AreSlots};
 ghost use Rattle.encoding_base.specs.Encoding.{class_rows, demands};
-ghost use Rattle.encoding_base.specs.Lists.{games_in};
+ghost use Rattle.encoding_base.specs.Keys.{IsListable, IsWithin, held, rows_of_key, rows_of_subject, suits};
 
-mod breaks;
-mod capacity;
-mod fairness;
-mod separation;
-
+use crate::counted::add_counted;
 use crate::draft::Draft;
 use crate::season::Season;
-use league::{Bounds, Class};
+use encoding_base::{Key, Subject, key_at, places_of, subject_at, subject_count};
+use league::Class;
 use std::alloc::{AllocError, Global};
 
 impl Draft {
     /// Adds "at least `degree` of the literals", where that demands anything.
-    pub(crate) fn demand_at_least(&mut self, degree: u64) -> Result<(), AllocError>
+    fn demand_at_least(&mut self, degree: u64) -> Result<(), AllocError>
         requires variables { AllPairs (λ l m. l.var ≢ m.var) self.old.literals.items }
         requires room { length self.old.rows + 1 < 2 ^ 32 }
         ensures rows { OnOk result (self.new.rows
@@ -34,7 +31,7 @@ impl Draft {
     }
 
     /// Adds "at most `bound` of the literals", where that demands anything.
-    pub(crate) fn demand_at_most(&mut self, bound: u64) -> Result<(), AllocError>
+    fn demand_at_most(&mut self, bound: u64) -> Result<(), AllocError>
         requires variables { AllPairs (λ l m. l.var ≢ m.var) self.old.literals.items }
         requires room { length self.old.rows + 1 < 2 ^ 32 }
         ensures rows { OnOk result (self.new.rows
@@ -48,56 +45,84 @@ impl Draft {
     }
 
     /// Adds both of these, where they demand anything.
-    pub(crate) fn demand_between(&mut self, bounds: Bounds) -> Result<(), AllocError>
+    fn demand_between(&mut self, low: u64, high: u64) -> Result<(), AllocError>
         requires variables { AllPairs (λ l m. l.var ≢ m.var) self.old.literals.items }
         requires room { length self.old.rows + 2 < 2 ^ 32 }
         ensures rows { OnOk result (self.new.rows
-            ≡ self.old.rows ++ filter demands (between bounds.min bounds.max self.old.literals.items)) }
+            ≡ self.old.rows ++ filter demands (between low high self.old.literals.items)) }
         ensures few { OnOk result (length self.new.rows ≤ length self.old.rows + 2) }
     {
-        self.demand_at_least(u64::from(bounds.min))?;
-        self.demand_at_most(u64::from(bounds.max))?;
+        self.demand_at_least(low)?;
+        self.demand_at_most(high)?;
         Ok(())
     }
 
-    /// Adds what bounds the games of some meetings in some slots.
-    pub(crate) fn demand_games(
+    /// Adds the rows of a key. `all` are all meetings of n teams.
+    fn add_key(
         &mut self,
+        alloc: Global,
         n: u16,
-        meetings: &[(u16, u16)],
-        slots: &[u16],
-        bounds: Bounds,
+        all: &[(u16, u16)],
+        key: Key<'_>,
     ) -> Result<(), AllocError>
         requires n { n ≤ 40 }
-        requires meetings { AreMeetings n meetings.now }
-        requires slots { AreSlots n slots.now }
+        requires all { all.now ≡ meetings_of n }
+        requires listable { IsListable n key.counted }
         requires room { length self.old.rows + 2 < 2 ^ 32 }
-        ensures rows { OnOk result (self.new.rows
-            ≡ self.old.rows ++ filter demands (between bounds.min bounds.max (games_in n meetings.now slots.now))) }
+        ensures rows { OnOk result (self.new.rows ≡ self.old.rows ++ rows_of_key (held n key.entry)) }
         ensures few { OnOk result (length self.new.rows ≤ length self.old.rows + 2) }
     {
-        self.list_games(n, meetings, slots)?;
-        self.demand_between(bounds)?;
+        self.literals.clear();
+        add_counted(&mut self.literals, alloc, n, all, key.counted)?;
+        self.demand_between(key.low, key.high)?;
         Ok(())
     }
 
-    /// Adds what allows at most one of these games.
-    pub(crate) fn demand_one_game(
+    /// Adds the rows of a class for one of its subjects, place by place.
+    fn add_subject(
         &mut self,
+        alloc: Global,
         n: u16,
-        meetings: &[(u16, u16)],
-        slots: &[u16],
+        all: &[(u16, u16)],
+        class: &Class,
+        subject: Subject,
     ) -> Result<(), AllocError>
-        requires n { n ≤ 40 }
-        requires meetings { AreMeetings n meetings.now }
-        requires slots { AreSlots n slots.now }
-        requires room { length self.old.rows + 1 < 2 ^ 32 }
-        ensures rows { OnOk result (self.new.rows
-            ≡ self.old.rows ++ filter demands (at_most 1 (games_in n meetings.now slots.now) ∷ [])) }
-        ensures few { OnOk result (length self.new.rows ≤ length self.old.rows + 1) }
+        requires n { IsTeamCount n }
+        requires all { all.now ≡ meetings_of n }
+        requires fits { IsTrue (class_fits n class.now) }
+        requires suits { IsTrue (suits class.now subject) }
+        requires within { IsWithin n subject }
+        requires room { length self.old.rows + 156 < 2 ^ 32 }
+        ensures rows { OnOk result (self.new.rows ≡ self.old.rows ++ rows_of_subject n class.now subject) }
+        ensures few { OnOk result (length self.new.rows ≤ length self.old.rows + 156) }
     {
-        self.list_games(n, meetings, slots)?;
-        self.demand_at_most(1)?;
+        let places = places_of(n, class);
+        for place in places {
+            let key = key_at(n, class, subject, *place);
+            self.add_key(alloc, n, all, key)?;
+        }
+        Ok(())
+    }
+
+    /// Adds the rows of a class, subject by subject.
+    fn add_subjects(
+        &mut self,
+        alloc: Global,
+        n: u16,
+        all: &[(u16, u16)],
+        class: &Class,
+    ) -> Result<(), AllocError>
+        requires n { IsTeamCount n }
+        requires all { all.now ≡ meetings_of n }
+        requires fits { IsTrue (class_fits n class.now) }
+        requires room { length self.old.rows + 121680 < 2 ^ 32 }
+        ensures rows { OnOk result (self.new.rows ≡ self.old.rows ++ class_rows n class.now) }
+        ensures few { OnOk result (length self.new.rows ≤ length self.old.rows + 121680) }
+    {
+        for place in 0..subject_count(n, class) {
+            let subject = subject_at(n, class, place);
+            self.add_subject(alloc, n, all, class, subject)?;
+        }
         Ok(())
     }
 }
@@ -118,16 +143,5 @@ pub(crate) fn add_class_rows(
     ensures rows { OnOk result (draft.new.rows ≡ draft.old.rows ++ class_rows season.now class.now) }
     ensures few { OnOk result (length draft.new.rows ≤ length draft.old.rows + 121680) }
 {
-    let n = season.n();
-    match class {
-        Class::Ca1 { .. } => draft.add_ca1_rows(n, class),
-        Class::Ca2 { .. } => draft.add_ca2_rows(alloc, n, class),
-        Class::Ca3 { .. } => draft.add_ca3_rows(alloc, season, class),
-        Class::Ca4 { .. } => draft.add_ca4_rows(alloc, season, class),
-        Class::Ga1 { .. } => draft.add_ga1_rows(n, class),
-        Class::Br1 { .. } => draft.add_br1_rows(n, class),
-        Class::Br2 { .. } => draft.add_br2_rows(n, class),
-        Class::Fa2 { .. } => draft.add_fa2_rows(alloc, season, class),
-        Class::Se1 { .. } => draft.add_se1_rows(alloc, season, class),
-    }
+    draft.add_subjects(alloc, season.n(), season.meetings(), class)
 }

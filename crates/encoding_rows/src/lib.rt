@@ -3,6 +3,7 @@
 #![tactic(auto)]
 
 mod break_rows;
+mod counted;
 mod demands;
 mod draft;
 mod literals;

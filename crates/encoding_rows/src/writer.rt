@@ -82,11 +82,12 @@ fn write_with(
         league.now.n league.now.constraints) }
 {
     let n = league.n();
-    let rows = RowStore::with_room(alloc, rows_at_most(league, terms), terms as usize)?;
+    let constraints = league.constraints();
+    let room = rows_at_most(n, constraints, terms);
+    let rows = RowStore::with_room(alloc, room, terms as usize)?;
     let mut draft = Draft::with_room(alloc, rows, n)?;
     let season = Season::new(alloc, n)?;
     add_season_rows(&mut draft, alloc, &season, league.phased())?;
-    let constraints = league.constraints();
     add_break_rows(&mut draft, &season, breaks)?;
     let starts = add_constraint_rows(&mut draft, alloc, &season, constraints)?;
     let Draft {

@@ -4,5 +4,3 @@ pub mod SizeFacts
 pub mod SizeLemmas
 pub mod ClassSizeLemmas
 pub mod SeasonSizes
--- The batches of a class:
-pub mod BatchLemmas

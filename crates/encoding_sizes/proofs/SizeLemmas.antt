@@ -8,19 +8,17 @@ use Rattle.std.proofs.lemmas.List.Elements.{All-tail}
 use Rattle.std.proofs.lemmas.List.Sums.{length-filter, sum_by-cons}
 use Rattle.std.specs.List.{All, count_by, filter, flat_map, sum_by}
 use Rattle.league.specs.Capacity.{meetings_with}
-use Rattle.league.specs.Instance.{is_one_side}
 use Rattle.league.specs.Meetings.{others}
 use Rattle.league.specs.declared.class.Side.{Side}
 use Rattle.league.specs.declared.class.Side.TheVariants.{H, A, Both}
-use Rattle.league.proofs.SumLemmas.{sum_by-flat_map, sum_by-same}
+use Rattle.league.proofs.SumLemmas.{sum_by-same}
 use Rattle.rows.specs.Cardinality.{at_least, at_most, between, unit}
 use Rattle.rows.specs.Literals.{Literal, negate, no, yes}
 use Rattle.rows.specs.Rows.{Row, size_of}
 use Rattle.encoding_base.specs.Encoding.{demands}
-use Rattle.encoding_base.specs.Lists.{after_first, at_home_in, away_breaks_at, away_in, breaks_in, games_in, home_breaks_at, meetings_in_order, venues_in}
+use Rattle.encoding_base.specs.Lists.{after_first, at_home_in, away_breaks_at, away_in, breaks_in, games_in, home_breaks_at, meetings_in_order}
 use Rattle.encoding_sizes.specs.Terms.{between_terms, least_terms, most_terms, side_count}
 use Rattle.encoding_base.specs.Variables.{ab_var, h_var, hb_var, x_var}
-use Rattle.encoding_base.proofs.KeyRowLemmas.{key_rows, one_key_rows}
 
 -- ---- sums
 
@@ -28,12 +26,6 @@ use Rattle.encoding_base.proofs.KeyRowLemmas.{key_rows, one_key_rows}
 pub sum_by-constant : {X : Type 0} (k : ℕ) (xs : List X) → sum_by (λ x. k) xs ≡ length xs * k
 sum_by-constant k [] = omega arith
 sum_by-constant k (x ∷ xs) = omega (arith, sum_by-cons (λ y. k) x xs, sum_by-constant k xs, suc-mul (length xs) k)
-
--- each term so many times
-pub sum_by-times : {X : Type 0} (k : ℕ) (f : X → ℕ) (xs : List X) → sum_by (λ x. k * f x) xs ≡ k * sum_by f xs
-sum_by-times k f [] = omega arith
-sum_by-times k f (x ∷ xs) =
-    omega (arith, sum_by-cons (λ y. k * f y) x xs, ap (λ (m : ℕ). k * m) (sum_by-cons f x xs), sum_by-times k f xs)
 
 -- terms that are equal at the elements
 pub sum_by-same_at : {X : Type 0} (f g : X → ℕ) (xs : List X) → All (λ x. f x ≡ g x) xs → sum_by f xs ≡ sum_by g xs
@@ -72,14 +64,6 @@ pub size_of-between : (low high : ℕ) (literals : List Literal) → size_of (fi
 size_of-between low high literals =
     omega (arith, size_of-cons (at_least low literals) (at_most high literals ∷ []), least-terms low literals, size_of-most high literals)
 
--- the rows of many keys, and those of one
-pub size_of-keys : {K : Type 0} (f : K → List Row) (keys : List K) → size_of (filter demands (flat_map (λ rows. rows) (map f keys))) ≡ sum_by (λ k. size_of (filter demands (f k))) keys
-size_of-keys f keys =
-    ap size_of (key_rows f keys) ∙ sum_by-flat_map (λ (r : Row). length r.terms) (λ k. filter demands (f k)) keys
-
-pub size_of-key : (rows : List Row) → size_of (filter demands (flat_map (λ rows. rows) (rows ∷ []))) ≡ size_of (filter demands rows)
-size_of-key rows = ap size_of (one_key_rows rows)
-
 -- ---- literals
 
 pub length-games_in : (n : ℕ) (meetings : List (ℕ × ℕ)) (slots : List ℕ) → length (games_in n meetings slots) ≡ length meetings * length slots
@@ -94,11 +78,6 @@ length-at_home n i slots = length-map slots (λ s. yes (h_var n i s))
 
 pub length-away : (n i : ℕ) (slots : List ℕ) → length (away_in n i slots) ≡ length slots
 length-away n i slots = length-map slots (λ s. no (h_var n i s))
-
-pub length-venues : (side : Side) (n i : ℕ) (slots : List ℕ) → is_one_side side ≡ true → length (venues_in side n i slots) ≡ length slots
-length-venues H n i slots one = length-at_home n i slots
-length-venues A n i slots one = length-away n i slots
-length-venues Both n i slots one = absurd (cc)
 
 -- the teams before i and those after it are the teams other than i
 apart : (i j : ℕ) → cond (nat_lt j i) 1 0 + cond (nat_lt i j) 1 0 ≡ cond (not (j == i)) 1 0

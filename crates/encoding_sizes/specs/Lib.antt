@@ -3,7 +3,5 @@
 -- Nothing beside the definitions of encoding_base.
 -- Kept inside (laws, and how fields are seen):
 --
--- Which lists of literals a class bounds:
-pub mod Batches
 -- How many terms the rows of a key have:
 pub mod Terms

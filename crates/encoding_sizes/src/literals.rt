@@ -1,18 +1,47 @@
-//! How many literals the rows of a constraint have: by its sides, teams, slots and meetings.
-ghost use Rattle.std.specs.Prelude.{◌≡◌, ◌-◌, ◌*◌, ◌/◌, ◌≤◌, ◌&&◌, ◌==◌, not, if◌then◌else◌, length, IsTrue};
+//! How many literals a key counts: by its sides, teams, slots and meetings.
+ghost use Rattle.std.specs.Prelude.{◌≡◌, ◌*◌, ◌≤◌, ℕ, ◌&&◌, ◌==◌, not, if◌then◌else◌, length};
 ghost use Rattle.std.specs.List.{count_by, filter};
 ghost use Rattle.league.specs.Capacity as capacity;
 ghost use Rattle.league.specs.Counts.{teams_of};
-ghost use Rattle.league.specs.Instance.{are_meetings, are_slots, are_teams};
-ghost use Rattle.league.specs.Meetings.{meetings_of, others, pairs_of};
-ghost use Rattle.encoding_base.specs.Lists.{after_first};
+ghost use Rattle.league.specs.Meetings.{meetings_of, others};
+ghost use Rattle.encoding_base.specs.Ascending.{AreMeetings, AreSlots, AreTeams};
+ghost use Rattle.encoding_base.specs.Keys.{IsListable, literals_of, most_counted};
+ghost use Rattle.encoding_base.specs.Lists.{after_first, venues_in};
 ghost use Rattle.encoding_sizes.specs.Terms as terms;
 
-use encoding_base::{is_between, meeting_numbers, slot_numbers, team_numbers};
-use league::{PairSet, Side, SlotSet, TeamSet};
+use encoding_base::{Counted, is_between};
+use league::{Side, TeamSet};
+
+/// How many literals a key of a league of n teams counts. None is listed.
+pub fn literal_count(n: u16, counted: Counted<'_>) -> u64
+    requires n { n ≤ 40 }
+    requires listable { IsListable n counted }
+    ensures count { result ≡ length (literals_of n counted.entry) }
+    ensures few { result ≤ most_counted counted.entry }
+{
+    match counted {
+        Counted::Venues { side, slots, .. } => venue_total(n, side, slots),
+        Counted::Against {
+            team,
+            opponents,
+            side,
+            slots,
+        } => side_total(side) * other_total(team, opponents) * slot_total(n, slots),
+        Counted::Between {
+            teams1,
+            teams2,
+            side,
+            slots,
+        } => between_total(n, side, teams1, teams2) * slot_total(n, slots),
+        Counted::Games { meetings, slots } => meeting_total(n, meetings) * slot_total(n, slots),
+        Counted::Breaks { side, slots, .. } => side_total(side) * later_total(n, slots),
+        Counted::AllBreaks { teams, slots } => 2 * (team_total(n, teams) * later_total(n, slots)),
+        Counted::Lead { slots, .. } => 2 * slot_total(n, slots),
+    }
+}
 
 /// On how many sides games are counted: 1 or 2.
-pub(crate) fn side_total(side: Side) -> u64
+fn side_total(side: Side) -> u64
     ensures sides { result ≡ terms.side_count side }
     ensures most { result ≤ 2 }
 {
@@ -22,48 +51,51 @@ pub(crate) fn side_total(side: Side) -> u64
     }
 }
 
-/// How many teams a set has: at most 40.
-pub(crate) fn team_total(n: u16, teams: &TeamSet) -> u64
+/// How many games of a team at home, or away, some slots have: of both sides none.
+fn venue_total(n: u16, side: Side, slots: &[u16]) -> u64
     requires n { n ≤ 40 }
-    requires teams { IsTrue (are_teams n teams.now) }
+    requires slots { AreSlots n slots.now }
+    ensures count { (i : ℕ) → result ≡ length (venues_in side n i slots.now) }
+    ensures few { result ≤ 78 }
+{
+    match side {
+        Side::H => slot_total(n, slots),
+        Side::A => slot_total(n, slots),
+        Side::Both => 0,
+    }
+}
+
+/// How many teams these are: at most 40.
+fn team_total(n: u16, teams: &[u16]) -> u64
+    requires n { n ≤ 40 }
+    requires teams { AreTeams n teams.now }
     ensures count { result ≡ length teams.now }
     ensures few { result ≤ 40 }
 {
-    team_numbers(n, teams).len() as u64
+    teams.len() as u64
 }
 
-/// How many pairs the teams of a set have: at most 780. No pair is listed.
-pub fn pair_total(n: u16, teams: &TeamSet) -> u64
+/// How many slots these are: at most 78.
+fn slot_total(n: u16, slots: &[u16]) -> u64
     requires n { n ≤ 40 }
-    requires teams { IsTrue (are_teams n teams.now) }
-    ensures count { result ≡ length (pairs_of teams.now) }
-    ensures few { result ≤ 780 }
-{
-    let total = team_total(n, teams);
-    total * total.saturating_sub(1) / 2
-}
-
-/// How many slots a set has: at most 78.
-pub(crate) fn slot_total(n: u16, slots: &SlotSet) -> u64
-    requires n { n ≤ 40 }
-    requires slots { IsTrue (are_slots n slots.now) }
+    requires slots { AreSlots n slots.now }
     ensures count { result ≡ length slots.now }
     ensures few { result ≤ 78 }
 {
-    slot_numbers(n, slots).len() as u64
+    slots.len() as u64
 }
 
-/// How many slots of a set have a slot before them, so that a break can stand there: all but slot 0.
-pub(crate) fn later_total(n: u16, slots: &SlotSet) -> u64
+/// How many of some slots have a slot before them, so that a break can stand there: all but slot 0.
+fn later_total(n: u16, slots: &[u16]) -> u64
     requires n { n ≤ 40 }
-    requires slots { IsTrue (are_slots n slots.now) }
+    requires slots { AreSlots n slots.now }
     ensures count { result ≡ length (after_first slots.now) }
     ensures few { result ≤ 78 }
 {
-    later_count(slot_numbers(n, slots))
+    later_count(slots)
 }
 
-/// How many of some slots, by their numbers, have a slot before them.
+/// How many of some slots have a slot before them.
 fn later_count(slots: &[u16]) -> u64
     ensures count { result ≡ length (after_first slots.now) }
     ensures few { result ≤ length slots.now }
@@ -71,27 +103,28 @@ fn later_count(slots: &[u16]) -> u64
     slots.iter().filter(|slot| **slot > 0).count() as u64
 }
 
-/// How many meetings a set has: at most 1,560.
-pub(crate) fn meeting_total(n: u16, meetings: &PairSet) -> u64
+/// How many meetings these are: at most 1,560.
+fn meeting_total(n: u16, meetings: &[(u16, u16)]) -> u64
     requires n { n ≤ 40 }
-    requires meetings { IsTrue (are_meetings n meetings.now) }
+    requires meetings { AreMeetings n meetings.now }
     ensures count { result ≡ length meetings.now }
     ensures few { result ≤ 1560 }
 {
-    meeting_numbers(n, meetings).len() as u64
+    meetings.len() as u64
 }
 
 /// How many of some teams, which are at most 40, are other than one.
-pub(crate) fn other_total(team: u16, teams: &[u16]) -> u64
+fn other_total(team: u16, teams: &[u16]) -> u64
     requires { length teams.now ≤ 40 }
     ensures count { result ≡ length (others team teams.now) }
     ensures few { result ≤ 40 }
+    ensures all { result ≤ length teams.now }
 {
     teams.iter().filter(|other| **other != team).count() as u64
 }
 
 /// How many meetings of a league are meetings of some teams with others, on a side of the first.
-pub(crate) fn between_total(n: u16, side: Side, teams1: &TeamSet, teams2: &TeamSet) -> u64
+fn between_total(n: u16, side: Side, teams1: &TeamSet, teams2: &TeamSet) -> u64
     requires { n ≤ 40 }
     ensures count { result
         ≡ length (filter (capacity.is_between side teams1.now teams2.now) (meetings_of n)) }

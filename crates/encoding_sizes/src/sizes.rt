@@ -1,134 +1,71 @@
-//! How many terms the rows of a class have. They are counted and not written, which takes no memory.
-ghost use Rattle.std.specs.Prelude.{◌≡◌, ◌+◌, ◌-◌, ◌*◌, ◌/◌, ◌<◌, ◌≤◌, length, IsTrue};
-ghost use Rattle.std.specs.List.{All, sum_by};
-ghost use Rattle.league.specs.Instance.{IsTeamCount, are_slots, class_fits};
-ghost use Rattle.league.specs.Names.{name_of};
-ghost use Rattle.league.specs.Shapes.{has_bounds};
+//! How many terms the rows of a class have, key by key. They are counted and not written, which takes no memory.
+ghost use Rattle.std.specs.Prelude.{◌≡◌, ◌+◌, ◌*◌, ◌≤◌, IsTrue};
+ghost use Rattle.league.specs.Counts as counts;
+ghost use Rattle.league.specs.Instance.{IsTeamCount, class_fits};
 ghost use Rattle.rows.specs.Rows.{size_of};
 ghost use Rattle.encoding_base.specs.Encoding.{class_rows};
+ghost use Rattle.encoding_base.specs.Keys.{IsWithin, key_of, most_literals, rows_of_key, rows_of_subject, suits, width};
 ghost use Rattle.encoding_sizes.specs.Terms as terms;
 
-use crate::batches::{Batch, batches_of};
-use crate::literals::pair_total;
-use encoding_base::slot_numbers;
-use league::{Bounds, Class, ClassName, SlotSet, slot_count};
+use crate::literals::literal_count;
+use encoding_base::{Subject, key_at, places_of, subject_at, subject_count};
+use league::Class;
 
-/// How many terms the rows of a class have that fits a league of n teams. It takes no memory, and no longer where there
-/// are more of them.
+/// How many terms the rows of a class have that fits a league of n teams. It takes no memory.
 pub(crate) fn class_terms(n: u16, class: &Class) -> u64
     requires n { IsTeamCount n }
     requires fits { IsTrue (class_fits n class.now) }
     ensures terms { result ≡ size_of (class_rows n class.now) }
     ensures most { result ≤ 40000000 }
 {
-    match class {
-        Class::Fa2 { .. } => fa2_terms(n, class),
-        Class::Se1 { .. } => se1_terms(n, class),
-        _ => counted_terms(n, class),
-    }
-}
-
-/// How many terms the rows of a class have that counts games or breaks.
-fn counted_terms(n: u16, class: &Class) -> u64
-    requires n { IsTeamCount n }
-    requires bounds { IsTrue (has_bounds class.now) }
-    requires fits { IsTrue (class_fits n class.now) }
-    ensures terms { result ≡ size_of (class_rows n class.now) }
-    ensures most { result ≤ 40000000 }
-{
-    let bounds = class.bounds();
-    let batches = batches_of(n, class);
-    batch_terms(bounds, batches.first) + batch_terms(bounds, batches.second)
-}
-
-/// How many terms the rows of one batch have.
-fn batch_terms(bounds: Bounds, batch: Batch) -> u64
-    requires few { batch.lists * batch.literals ≤ 20000000 }
-    requires short { batch.literals ≤ 124800 }
-    ensures terms { result ≡ batch.lists * terms.between_terms bounds.min bounds.max batch.literals }
-    ensures most { result ≤ 2 * (batch.lists * batch.literals) }
-{
-    batch.lists * between_terms(bounds.min, bounds.max, batch.literals)
-}
-
-/// How many terms the rows of an FA2 have.
-fn fa2_terms(n: u16, class: &Class) -> u64
-    requires n { n ≤ 40 }
-    requires class { name_of class.now ≡ ClassName.Fa2 }
-    requires fits { IsTrue (class_fits n class.now) }
-    ensures terms { result ≡ size_of (class_rows n class.now) }
-    ensures most { result ≤ 40000000 }
-{
-    let Class::Fa2 { teams, intp, slots } = class else {
-        unreachable!()
-    };
-    pair_total(n, teams) * lead_terms_of(n, *intp, slots)
-}
-
-/// The terms of the rows of an FA2's two teams.
-fn lead_terms_of(n: u16, intp: u32, slots: &SlotSet) -> u64
-    requires n { n ≤ 40 }
-    requires slots { IsTrue (are_slots n slots.now) }
-    ensures terms { result ≡ sum_by (terms.fa2_terms intp) slots.now }
-    ensures most { result ≤ 24336 }
-{
-    lead_terms(intp, slot_numbers(n, slots))
-}
-
-/// The terms of the rows of an FA2's two teams, by the numbers of its slots.
-fn lead_terms(intp: u32, slots: &[u16]) -> u64
-    requires few { length slots.now ≤ 78 }
-    requires below { All (λ s. s < 78) slots.now }
-    ensures terms { result ≡ sum_by (terms.fa2_terms intp) slots.now }
-    ensures most { result ≤ 312 * length slots.now }
-{
     let mut total = 0;
-    for slot in slots {
-        total += lead_terms_at(intp, *slot);
+    for place in 0..subject_count(n, class) {
+        total += subject_terms(n, class, subject_at(n, class, place));
     }
     total
 }
 
-/// The terms of the two rows at a slot.
-fn lead_terms_at(intp: u32, slot: u16) -> u64
-    requires { slot < 78 }
-    ensures terms { result ≡ terms.fa2_terms intp slot }
-    ensures most { result ≤ 312 }
+/// How many terms the rows of a subject have.
+fn subject_terms(n: u16, class: &Class, subject: Subject) -> u64
+    requires n { IsTeamCount n }
+    requires fits { IsTrue (class_fits n class.now) }
+    requires suits { IsTrue (suits class.now subject) }
+    requires within { IsWithin n subject }
+    ensures terms { result ≡ size_of (rows_of_subject n class.now subject) }
+    ensures most { result ≤ 156 * most_literals class.now }
 {
-    let so_far = u64::from(slot) + 1;
-    if u64::from(intp) < so_far {
-        4 * so_far
-    } else {
-        0
+    let places = places_of(n, class);
+    let mut total = 0;
+    for place in places {
+        total += key_terms(n, class, subject, *place);
     }
+    total
 }
 
-/// How many terms the rows of an SE1 have.
-fn se1_terms(n: u16, class: &Class) -> u64
+/// How many terms the rows of a key have.
+fn key_terms(n: u16, class: &Class, subject: Subject, place: u16) -> u64
     requires n { IsTeamCount n }
-    requires class { name_of class.now ≡ ClassName.Se1 }
     requires fits { IsTrue (class_fits n class.now) }
-    ensures terms { result ≡ size_of (class_rows n class.now) }
-    ensures most { result ≤ 40000000 }
+    requires suits { IsTrue (suits class.now subject) }
+    requires within { IsWithin n subject }
+    requires place { place + width n class.now ≤ counts.slot_count n }
+    ensures terms { result ≡ size_of (rows_of_key (key_of n class.now subject place)) }
+    ensures most { result ≤ 2 * most_literals class.now }
 {
-    let Class::Se1 { teams, min } = class else {
-        unreachable!()
-    };
-    let season = u64::from(slot_count(n));
-    let window = (u64::from(*min) + 1).min(season);
-    pair_total(n, teams) * ((season + 1 - window) * (2 * window))
+    let key = key_at(n, class, subject, place);
+    between_terms(key.low, key.high, literal_count(n, key.counted))
 }
 
 /// The terms of "at most so many" of a number of literals.
-fn most_terms(high: u32, count: u64) -> u64
+fn most_terms(high: u64, count: u64) -> u64
     ensures terms { result ≡ terms.most_terms high count }
     ensures most { result ≤ count }
 {
-    if u64::from(high) < count { count } else { 0 }
+    if high < count { count } else { 0 }
 }
 
 /// The terms of "at least so many".
-fn least_terms(low: u32, count: u64) -> u64
+fn least_terms(low: u64, count: u64) -> u64
     ensures terms { result ≡ terms.least_terms low count }
     ensures most { result ≤ count }
 {
@@ -136,7 +73,7 @@ fn least_terms(low: u32, count: u64) -> u64
 }
 
 /// The terms of both.
-fn between_terms(low: u32, high: u32, count: u64) -> u64
+fn between_terms(low: u64, high: u64, count: u64) -> u64
     requires { count ≤ 1000000 }
     ensures terms { result ≡ terms.between_terms low high count }
     ensures most { result ≤ 2 * count }

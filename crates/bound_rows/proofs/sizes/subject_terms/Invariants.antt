@@ -1,0 +1,11 @@
+use Rattle.std.proofs.Common.{◌≡◌, ◌*◌, ◌≤◌, take}
+use Rattle.std.specs.List.{sum_by}
+use Rattle.encoding_base.specs.Keys.{key_of}
+use Rattle.bound_rows.specs.Sizes.{key_size}
+use Rattle.bound_rows.proofs.sizes.subject_terms.Given as goal
+
+abbrev pub invariant-loop-place : goal.invariant-loop-place
+invariant-loop-place l = record {
+  so_far : l.total ≡ sum_by (λ place. key_size (key_of l.n l.class l.subject place)) (take l.place-index l.places);
+  most : l.total ≤ 22000000000 * l.place-index;
+}

@@ -1,0 +1,77 @@
+use Rattle.std.proofs.Common.{◌≡◌, ◌<◌, ◌≤◌, ℕ, ◌+◌, ◌-◌, List, [], ◌∷◌, ◌++◌, length, ap, sym, subst, ◌∙◌, arith}
+use Rattle.std.proofs.lemmas.List.FromFn.{length-range_with_len}
+use Rattle.std.specs.List.{range_with_len}
+use Rattle.league.specs.Capacity.{meetings_with}
+use Rattle.league.specs.Counts.{slot_count}
+use Rattle.league.specs.declared.class.Class.{Class}
+use Rattle.league.specs.declared.class.Side.TheVariants.{Both}
+use Rattle.rows.specs.Literals.{Literal}
+use Rattle.encoding_base.specs.Keys.{IsListable, key_of, most_counted, most_literals, separation, width}
+use Rattle.encoding_base.specs.Lists.{at_home_in, away_in, games_in, meetings_in_order, slots_up_to}
+use Rattle.encoding_base.specs.declared.keys.Counted.{Counted}
+use Rattle.encoding_base.specs.declared.subjects.Subject.TheVariants.{Pair}
+use Rattle.encoding_base.proofs.HeldKeys.{bounded, in_order-one, one_team, same_key}
+use Rattle.encoding_base.proofs.NumberLemmas.{run_ascends}
+use Rattle.encoding_base.proofs.keys.pair_key.Goals as goal
+
+pub returns-in-Fa2-clause-key : goal.returns-in-Fa2-clause-key
+returns-in-Fa2-clause-key c =
+    let n = c.args.n in
+    let i = c.args.first in
+    let j = c.args.second in
+    let place = c.args.place in
+    let intp = c.in-Fa2.intp in
+    let lead : List ℕ → List Literal = λ ss. away_in n i ss ++ at_home_in n j ss in
+    let low : c.saturating_sub-low.result ≡ place + 1 - intp = omega arith in
+    let high : c.from-so_far.result + 1 + c.from-in-Fa2.result ≡ place + 1 + intp = omega arith in
+    ap (λ (k : ℕ). bounded k (c.from-so_far.result + 1 + c.from-in-Fa2.result) (lead c.consecutive-slots.result.now)) low
+    ∙ ap (λ (k : ℕ). bounded (place + 1 - intp) k (lead c.consecutive-slots.result.now)) high
+    ∙ ap (λ (ss : List ℕ). bounded (place + 1 - intp) (place + 1 + intp) (lead ss)) c.consecutive-slots.ensures.numbers
+    ∙ sym (ap (λ (class : Class). key_of n class (Pair i j) place) c.in-Fa2.is)
+
+pub returns-in-Fa2-clause-listable : goal.returns-in-Fa2-clause-listable
+returns-in-Fa2-clause-listable c =
+    let within : 0 + (c.args.place + 1) ≤ slot_count c.args.n =
+    omega (arith, c.requires.place, ap (width c.args.n) c.in-Fa2.is) in
+    (
+      c.requires.pair,
+      run_ascends c.args.n 0 (c.args.place + 1) c.consecutive-slots.result.now c.consecutive-slots.ensures.numbers within,
+    )
+
+pub returns-in-Se1-clause-key : goal.returns-in-Se1-clause-key
+returns-in-Se1-clause-key c =
+    let n = c.args.n in
+    let i = c.args.first in
+    let j = c.args.second in
+    let place = c.args.place in
+    let window = c.consecutive-in-Se1.result.now in
+    same_key n c.new.result _ _ _ _ c.new.ensures.low c.new.ensures.high c.new.ensures.counted
+    (ap (λ (ts : List ℕ). games_in n (meetings_in_order Both i ts) window) c.consecutive.ensures.numbers
+    ∙ ap (λ (ps : List (ℕ × ℕ)). games_in n ps window) (in_order-one i j c.requires.pair.order)
+    ∙ ap (λ (ss : List ℕ). games_in n (meetings_with Both i (j ∷ [])) ss)
+    (c.consecutive-in-Se1.ensures.numbers ∙ ap (range_with_len place) c.separation_window.ensures))
+    ∙ sym (ap (λ (class : Class). key_of n class (Pair i j) place) c.in-Se1.is)
+
+pub returns-in-Se1-clause-listable : goal.returns-in-Se1-clause-listable
+returns-in-Se1-clause-listable c =
+    let n = c.args.n in
+    let within : c.args.place + c.separation_window.result ≤ slot_count n =
+    omega (arith, c.requires.place, ap (width n) c.in-Se1.is, c.separation_window.ensures) in
+    let first : c.args.first < n = omega (arith, c.requires.pair.order, c.requires.pair.within) in
+    subst (λ (k : Counted). IsListable n k) (sym c.new.ensures.counted)
+    (
+      first,
+      one_team n c.args.second c.consecutive.result.now c.requires.pair.within c.consecutive.ensures.numbers,
+      run_ascends n c.args.place c.separation_window.result c.consecutive-in-Se1.result.now
+          c.consecutive-in-Se1.ensures.numbers within,
+    )
+
+pub returns-in-Se1-clause-few : goal.returns-in-Se1-clause-few
+returns-in-Se1-clause-few c =
+    omega (
+      arith,
+      ap most_counted c.new.ensures.counted,
+      ap most_literals c.in-Se1.is,
+      ap length c.consecutive.ensures.numbers,
+      length-range_with_len c.args.second 1,
+    )

@@ -1,0 +1,23 @@
+use Rattle.std.proofs.Common.{ap, arith}
+use Rattle.encoding_base.specs.Keys.{width}
+use Rattle.encoding_base.proofs.SubjectLemmas.{firsts_fit}
+use Rattle.encoding_base.proofs.subjects.places_of.Goals as goal
+
+pub returns-in-Ca3-clause-fit : goal.returns-in-Ca3-clause-fit
+returns-in-Ca3-clause-fit c = λ k d there.
+    omega (
+      arith,
+      firsts_fit c.args.n c.from.result c.firsts.result.now c.firsts.ensures.firsts k d there,
+      c.from.ensures,
+      ap (width c.args.n) c.in-Ca3.is,
+    )
+
+pub returns-in-Se1-clause-fit : goal.returns-in-Se1-clause-fit
+returns-in-Se1-clause-fit c = λ k d there.
+    omega (
+      arith,
+      firsts_fit c.args.n c.from-in-Se1.result c.firsts-in-Se1.result.now c.firsts-in-Se1.ensures.firsts k d there,
+      c.from-in-Se1.ensures,
+      c.separation_window.ensures,
+      ap (width c.args.n) c.in-Se1.is,
+    )
