@@ -1,9 +1,10 @@
 -- What is learnt where a walk ends: a clause that follows, and is empowering.
-use Rattle.std.proofs.Common.{◌≡◌, ◌≢◌, ℕ, zero, suc, ◌+◌, ◌^◌, ◌<◌, ◌≤◌, List, [], ◌∷◌, ◌++◌, length, map}
+use Rattle.std.proofs.Common.{◌≡◌, ◌≢◌, ℕ, zero, suc, ◌+◌, ◌^◌, ◌<◌, ◌≤◌, ◌⊎◌, List, [], ◌∷◌, ◌++◌, length, map}
 use Rattle.std.proofs.Common.{Ok}
 use Rattle.std.proofs.Common.{refl, inl, inr, arith, ap, sym, subst, ◌∙◌}
 use Rattle.std.specs.List.{All}
 use Rattle.std.proofs.lemmas.List.{append-nil}
+use Rattle.std.proofs.lemmas.List.Elements.{All-push}
 use Rattle.std.proofs.lemmas.Bool.{cases_eq, cases_lt}
 use Rattle.rows.specs.Cardinality.{at_least}
 use Rattle.rows.specs.Literals.{Literal}
@@ -213,3 +214,8 @@ pub collected_hints : (es : List Entry) (roles : List Role) (k : ℕ) (old new :
 collected_hints es roles k old new old_is new_is =
     new_is ∙ ap (λ (hs : List ℕ). hs ++ hint_of (reason_at es k) (role_at roles k)) old_is
     ∙ sym (hints_more (reason_at es) (role_at roles) k)
+
+-- the places with a part, one more or not
+pub collected_parts : (n k : ℕ) (old new : List ℕ) → k < n → All (λ j. j < n) old → (new ≡ old) ⊎ (new ≡ old ++ k ∷ []) → All (λ j. j < n) new
+collected_parts n k old new within parts (inl same) = subst (λ (ks : List ℕ). All (λ j. j < n) ks) (sym same) parts
+collected_parts n k old new within parts (inr pushed) = subst (λ (ks : List ℕ). All (λ j. j < n) ks) (sym pushed) (All-push (λ j. j < n) old k parts within)

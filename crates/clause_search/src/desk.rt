@@ -19,6 +19,8 @@ pub(crate) struct Desk {
     pub(crate) restarts: Restarts,
     /// The part of each place of the trail in the last conflict.
     pub(crate) roles: Vec<Role>,
+    /// The places that have a part in it.
+    pub(crate) parts: Vec<usize>,
     /// The clause that was learnt last, from how many levels its literals come, and its hints as the trail numbers rows.
     pub(crate) clause: Vec<Lit>,
     pub(crate) levels: u32,
@@ -52,6 +54,7 @@ impl Desk {
             order,
             restarts: Restarts::new(),
             roles: Vec::new(alloc),
+            parts: Vec::new(alloc),
             clause: Vec::new(alloc),
             levels: 0,
             hints: Vec::new(alloc),

@@ -1,5 +1,5 @@
 //! What is learnt from a conflict.
-ghost use Rattle.std.specs.Prelude.{◌≡◌, ◌++◌, ℕ, ◌^◌, ◌<◌, [], ◌∷◌, length, false, replicate, IfOk, OnOk};
+ghost use Rattle.std.specs.Prelude.{◌≡◌, ◌⊎◌, ◌++◌, ℕ, ◌^◌, ◌<◌, [], ◌∷◌, length, false, replicate, IfOk, OnOk};
 ghost use Rattle.std.specs.List.{All};
 ghost use Rattle.propagate.specs.Trails.{IsQuietBelow, NamesConflict, is_decision, values_of};
 ghost use Rattle.clause_search.specs.Analysis.{clause_below, hint_of, hints_below, literal_of};
@@ -75,23 +75,21 @@ fn explain(
         &desk.roles,
         &mut desk.clause,
         &mut desk.hints,
+        &mut desk.parts,
     )?;
-    raise_all(trail, &desk.roles, &mut desk.order);
-    desk.levels = count_levels(trail, &desk.roles);
+    raise_all(trail, &desk.parts, &mut desk.order);
+    desk.levels = count_levels(trail, &desk.roles, &desk.parts);
     Ok(back_level(trail, &desk.roles, start))
 }
 
-/// Makes the variables that have a part in a conflict more active.
-pub(crate) fn raise_all(trail: &Trail, roles: &[Role], order: &mut Order)
+/// Makes the variables at these places, which have a part in a conflict, more active.
+pub(crate) fn raise_all(trail: &Trail, parts: &[usize], order: &mut Order)
     requires vars { order.old.vars ≡ trail.now.vars }
-    requires roles { length roles.now ≡ length trail.now.entries }
+    requires inside { All (λ k. k < length trail.now.entries) parts.now }
     ensures { order.new.vars ≡ order.old.vars }
 {
-    for k in 0..trail.len() {
-        if let Role::Apart = roles[k] {
-            continue;
-        }
-        order.raise(trail.entry(k).lit);
+    for k in parts {
+        order.raise(trail.entry(*k).lit);
     }
     order.age();
 }
@@ -140,6 +138,7 @@ pub(crate) fn refute(
         &desk.roles,
         &mut desk.clause,
         &mut desk.hints,
+        &mut desk.parts,
     )?;
     desk.name_hints()?;
     log.push(&[], &desk.names)?;
@@ -185,8 +184,8 @@ fn set_apart(roles: &mut Vec<Role>, len: usize) -> Result<(), AllocError>
     roles.resize(len, Role::Apart)
 }
 
-/// The negations of the literals that are kept, and the reasons of those that are used, both in the trail's order; the
-/// row in conflict is the last hint.
+/// The negations of the literals that are kept, the reasons of those that are used, and the places of both, all in the
+/// trail's order; the row in conflict is the last hint.
 ///
 /// # Errors
 /// Only where memory runs out.
@@ -196,6 +195,7 @@ fn collect(
     roles: &[Role],
     clause: &mut Vec<Lit>,
     hints: &mut Vec<u64>,
+    parts: &mut Vec<usize>,
 ) -> Result<(), AllocError>
     requires { length roles.now ≡ length trail.now.entries }
     ensures clause { OnOk result (clause.new.items
@@ -204,35 +204,41 @@ fn collect(
         ≡ hints_below (reason_at trail.now.entries) (role_at roles.now) (length trail.now.entries)
         ++ conflict.row ∷ []) }
     ensures small { OnOk result (All (λ hint. hint < 2 ^ 64) hints.new.items) }
+    ensures parts { OnOk result (All (λ k. k < length trail.now.entries) parts.new.items) }
 {
     clause.clear();
     hints.clear();
+    parts.clear();
     for k in 0..trail.len() {
-        collect_place(trail, k, roles[k], clause, hints)?;
+        collect_place(trail, k, roles[k], clause, hints, parts)?;
     }
     hints.push(conflict.row)?;
     Ok(())
 }
 
-/// What a place with this part adds to the clause and to the hints.
+/// What a place with this part adds to the clause, to the hints, and to the places with a part.
 fn collect_place(
     trail: &Trail,
     k: usize,
     role: Role,
     clause: &mut Vec<Lit>,
     hints: &mut Vec<u64>,
+    parts: &mut Vec<usize>,
 ) -> Result<(), AllocError>
     requires { k < length trail.now.entries }
     ensures clause { OnOk result (clause.new.items ≡ clause.old.items ++ literal_of (lit_at trail.now.entries k) role) }
     ensures hints { OnOk result (hints.new.items ≡ hints.old.items ++ hint_of (reason_at trail.now.entries k) role) }
+    ensures parts { OnOk result ((parts.new.items ≡ parts.old.items) ⊎ (parts.new.items ≡ parts.old.items ++ k ∷ [])) }
 {
     match role {
         Role::Kept => {
+            parts.push(k)?;
             let lit = trail.entry(k).lit;
             clause.push(lit.negate())?;
             Ok(())
         }
         Role::Used => {
+            parts.push(k)?;
             let reason = trail.entry(k).reason;
             hints.push(reason.unwrap_or(0))?;
             Ok(())

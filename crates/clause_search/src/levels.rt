@@ -1,6 +1,7 @@
 //! The levels of a trail: where its last one begins, to which one a search goes back, and what it takes off then. To go
 //! back past levels that had no part in a conflict is the backjumping of GRASP.
 ghost use Rattle.std.specs.Prelude.{◌≡◌, ℕ, ◌<◌, ◌≤◌, length, false, None, IfSome};
+ghost use Rattle.std.specs.List.{All};
 ghost use Rattle.propagate.specs.Trails.{IsQuietBelow, is_decision};
 ghost use Rattle.clause_search.specs.Marks.{IsBackLevel, IsLastDecision};
 ghost use Rattle.clause_search.specs.Trails.{entry_at};
@@ -59,16 +60,17 @@ pub(crate) fn release_above(trail: &Trail, level: u32, order: &mut Order)
     }
 }
 
-/// From how many levels the literals of the learnt clause come. It only guides which clauses are forgotten: no clause
-/// says what it answers.
-pub(crate) fn count_levels(trail: &Trail, roles: &[Role]) -> u32
+/// From how many levels the literals of the learnt clause come, which are among those at these places. It only guides
+/// which clauses are forgotten: no clause says what it answers.
+pub(crate) fn count_levels(trail: &Trail, roles: &[Role], parts: &[usize]) -> u32
     requires roles { length roles.now ≡ length trail.now.entries }
+    requires inside { All (λ k. k < length trail.now.entries) parts.now }
 {
     let mut count: u32 = 0;
     let mut level = 0;
-    for k in 0..trail.len() {
-        let entry = trail.entry(k);
-        if is_kept(roles[k]) && (count == 0 || entry.level != level) {
+    for k in parts {
+        let entry = trail.entry(*k);
+        if is_kept(roles[*k]) && (count == 0 || entry.level != level) {
             count = count.saturating_add(1);
             level = entry.level;
         }

@@ -19,9 +19,9 @@ use Rattle.rows.specs.declared.partial.Value.{Value}
 use Rattle.rows.specs.declared.partial.Value.TheVariants.{True, False, Free}
 use Rattle.rows.proofs.TrailLemmas.{set_true-other, set_true-same, valued-set, valued-set_other, valued-set_same}
 use Rattle.propagate.specs.Numbered.{row_at}
-use Rattle.propagate.specs.Links.{AreLinked, IsEmptyLink, IsLastBelow, Lacks, LeadsBelow}
+use Rattle.propagate.specs.Links.{AreLinked, IsLastBelow, IsListed, Lacks, LeadsBelow, links_of, term_of}
 use Rattle.propagate.specs.Counters.{SeenCounters}
-use Rattle.propagate.specs.Tables.{AreCounted, IsCounted, IsEnough, IsSameTable}
+use Rattle.propagate.specs.Tables.{AreCounted, IsCounted, IsEnough}
 use Rattle.propagate.specs.Trails.{KnowsVariables}
 use Rattle.propagate.specs.declared.link.Link.{Link}
 use Rattle.propagate.specs.declared.table.Table.{Table}
@@ -32,10 +32,10 @@ use Rattle.propagate.proofs.ValueLemmas.{AreApart}
 -- ---- building
 
 -- no row yet
-pub AreCounted-none : (rows : List Row) (values : ℕ → Value) (slots : ℕ) (table : Table) → table.heads.items ≡ replicate slots 0 → All IsEmptyLink table.links.items → table.reach.items ≡ []
+pub AreCounted-none : (rows : List Row) (values : ℕ → Value) (slots : ℕ) (table : Table) → table.lists ≡ replicate slots [] → table.reach.items ≡ []
     → table.enough.items ≡ [] → AreCounted rows 0 values table
-AreCounted-none rows values slots table heads empty reaches enoughs = record {
-  linked = subst (λ (hs : List ℕ). AreLinked rows 0 hs table.links.items) (sym heads) (AreLinked-none rows slots table.links.items empty);
+AreCounted-none rows values slots table lists reaches enoughs = record {
+  linked = subst (λ (ls : List (List Link)). AreLinked rows 0 ls) (sym lists) (AreLinked-none rows slots);
   reach_length = ap (λ (ns : List ℕ). length ns) reaches;
   enough_length = ap (λ (ns : List ℕ). length ns) enoughs;
   reached = λ k below. absurd (omega arith);
@@ -43,32 +43,10 @@ AreCounted-none rows values slots table heads empty reaches enoughs = record {
   fits = λ k below. absurd (omega arith);
 }
 
--- a table with the same lists
-pub AreCounted-same : (rows : List Row) (n : ℕ) (values : ℕ → Value) (old new : Table) → IsSameTable old new → AreCounted rows n values old → AreCounted rows n values new
-AreCounted-same rows n values old new same counted = record {
-  linked =
-      subst (λ (hs : List ℕ). AreLinked rows n hs new.links.items) (sym same.heads)
-      (subst (λ (ls : List Link). AreLinked rows n old.heads.items ls) (sym same.links) counted.linked);
-  reach_length = ap (λ (ns : List ℕ). length ns) same.reach ∙ counted.reach_length;
-  enough_length = ap (λ (ns : List ℕ). length ns) same.enough ∙ counted.enough_length;
-  reached = λ k below. ap (λ (ns : List ℕ). get_or ns k 0) same.reach ∙ counted.reached k below;
-  enough = λ k below. subst (λ (ns : List ℕ). IsEnough (row_at rows k) (get_or ns k 0)) (sym same.enough) (counted.enough k below);
-  fits = counted.fits;
-}
-
-pub IsCounted-same : (rows : List Row) (values : List Value) (old new : Table) → IsSameTable old new → IsCounted rows values old → IsCounted rows values new
-IsCounted-same rows values old new same counted = record {
-  few = counted.few;
-  proper = counted.proper;
-  known = counted.known;
-  slots = ap (λ (hs : List ℕ). length hs) same.heads ∙ counted.slots;
-  counted = AreCounted-same rows (length rows) (valued values) old new same counted.counted;
-}
-
 -- more rows stand behind
 pub AreCounted-rows : (rows more : List Row) (n : ℕ) (values : ℕ → Value) (table : Table) → n ≤ length rows → AreCounted rows n values table → AreCounted (rows ++ more) n values table
 AreCounted-rows rows more n values table within counted = record {
-  linked = AreLinked-rows rows more n table.heads.items table.links.items within counted.linked;
+  linked = AreLinked-rows rows more n table.lists within counted.linked;
   reach_length = counted.reach_length;
   enough_length = counted.enough_length;
   reached = λ k below. counted.reached k below ∙ ap (λ (r : Row). reach values r.terms) (sym (row_at-front rows more k (omega arith)));
@@ -84,7 +62,7 @@ row_is row terms degree same_terms same_degree =
 -- one row more is counted
 pub AreCounted-more : (rows : List Row) (k : ℕ) (values : ℕ → Value) (old new : Table) (terms : List Term) (degree reached enough : ℕ)
     → AreCounted rows k values old → terms ≡ (row_at rows k).terms → degree ≡ (row_at rows k).degree
-    → AreLinked rows (k + 1) new.heads.items new.links.items
+    → AreLinked rows (k + 1) new.lists
     → new.reach.items ≡ old.reach.items ++ reached ∷ [] → reached ≡ reach values terms
     → new.enough.items ≡ old.enough.items ++ enough ∷ [] → IsEnough (record { terms = terms; degree = degree }) enough
     → reach (λ v. Free) (row_at rows k).terms + 1 < 2 ^ 64
@@ -151,20 +129,11 @@ IsQuietRow-enough rows values table k e r counted there e_read r_read at_least =
       none_forced = λ j d within free. (counted.counted.enough k there (reach (valued values) (row_at rows k).terms) enough few).1 j d within;
     }
 
--- what is read of the heads
-pub leads-read : (rows : List Row) (values : List Value) (table : Table) (l : Literal) (place x : ℕ) → IsCounted rows values table → l.var ≤ length values → place ≡ code_of l
-    → x ≡ get_or table.heads.items place x → LeadsBelow rows table.links.items l (length rows) x
-leads-read rows values table l place x counted known place_is read =
-    let slot : code_of l < length table.heads.items = omega (arith, code_of-below l (length values) known, counted.slots) in
-    let is : x ≡ get_or table.heads.items (code_of l) 0 =
-    get_or_read table.heads.items place x (omega (arith, place_is, slot)) read 0 ∙ ap (λ (p : ℕ). get_or table.heads.items p 0) place_is in
-    subst (λ (n : ℕ). LeadsBelow rows table.links.items l (length rows) n) (sym is) (counted.counted.linked.first l slot)
-
--- what is read of the links
-pub next-read : (rows : List Row) (n : ℕ) (heads : List ℕ) (links : List Link) (i : ℕ) (x : Link) → AreLinked rows n heads links → i < length links → x ≡ get_or links i x
-    → LeadsBelow rows links x.term.lit x.row x.next
-next-read rows n heads links i x linked within read =
-    subst (λ (y : Link). LeadsBelow rows links y.term.lit y.row y.next) (sym read) (linked.next i x within)
+-- the links of a literal
+pub listed-read : (rows : List Row) (values : List Value) (table : Table) (l : Literal) → IsCounted rows values table → l.var ≤ length values
+    → IsListed rows (length rows) l (links_of table.lists l)
+listed-read rows values table l counted known =
+    counted.counted.linked l (omega (arith, code_of-below l (length values) known, counted.slots))
 
 -- ---- one literal more or less
 
@@ -181,9 +150,9 @@ pub record IsMoving (rows : List Row) (links : List Link) (l : Literal) (before 
 abbrev pub SameWithout : Literal → (ℕ → Value) → (ℕ → Value) → Type 0
 SameWithout l before after = (terms : List Term) → Lacks l terms → reach before terms ≡ reach after terms
 
-pub IsMoving-none : (rows : List Row) (values : ℕ → Value) (table : Table) (l : Literal) (after : ℕ → Value) (at : ℕ) → AreCounted rows (length rows) values table
-    → LeadsBelow rows table.links.items l (length rows) at → IsMoving rows table.links.items l values after at table.reach.items
-IsMoving-none rows values table l after at counted leads = record {
+pub IsMoving-none : (rows : List Row) (values : ℕ → Value) (table : Table) (links : List Link) (l : Literal) (after : ℕ → Value) (at : ℕ) → AreCounted rows (length rows) values table
+    → LeadsBelow rows links l (length rows) at → IsMoving rows links l values after at table.reach.items
+IsMoving-none rows values table links l after at counted leads = record {
   bound = length rows;
   within = omega arith;
   leads = leads;
@@ -195,28 +164,28 @@ IsMoving-none rows values table l after at counted leads = record {
 -- the next link, and what is kept of its row
 pub record IsStep (rows : List Row) (links : List Link) (l : Literal) (before : ℕ → Value) (bound at : ℕ) (reaches : List ℕ) (x : Link) : Type 0 where
   pub last : IsLastBelow rows l bound x
-  pub leads : LeadsBelow rows links l x.row x.next
+  pub leads : LeadsBelow rows links l x.row (at - 1)
   pub there : x.row < length rows
   pub was : get_or reaches x.row 0 ≡ reach before (row_at rows x.row).terms
 
-pub moving-step : (rows : List Row) (n : ℕ) (heads : List ℕ) (links : List Link) (l : Literal) (before after : ℕ → Value) (at : ℕ) (reaches : List ℕ) (x : Link) → AreLinked rows n heads links
+pub moving-step : (rows : List Row) (links : List Link) (l : Literal) (before after : ℕ → Value) (at : ℕ) (reaches : List ℕ) (x : Link) → IsListed rows (length rows) l links
     → (moving : IsMoving rows links l before after at reaches) → 0 < at → x ≡ get_or links (at - 1) x → IsStep rows links l before moving.bound at reaches x
-moving-step rows n heads links l before after at reaches x linked moving some read =
+moving-step rows links l before after at reaches x listed moving some read =
     let within : at - 1 < length links = omega (arith, moving.leads.within) in
     let last : IsLastBelow rows l moving.bound x =
     subst (λ (y : Link). IsLastBelow rows l moving.bound y) (sym read) (moving.leads.some (at - 1) x (omega arith)) in
     record {
       last = last;
-      leads = subst (λ (m : Literal). LeadsBelow rows links m x.row x.next) last.literal (next-read rows n heads links (at - 1) x linked within read);
+      leads = subst (λ (y : Link). LeadsBelow rows links l y.row (at - 1)) (sym read) (listed.each (at - 1) x within);
       there = omega (arith, last.below, moving.within);
       was = moving.below x.row last.below;
     }
 
 -- the next row is counted anew
 pub IsMoving-more : (rows : List Row) (links : List Link) (l : Literal) (before after : ℕ → Value) (at value : ℕ) (reaches : List ℕ) (link : Link) → SameWithout l before after
-    → (moving : IsMoving rows links l before after at reaches) → IsLastBelow rows l moving.bound link → LeadsBelow rows links l link.row link.next
+    → (moving : IsMoving rows links l before after at reaches) → IsLastBelow rows l moving.bound link → LeadsBelow rows links l link.row (at - 1)
     → value ≡ reach after (row_at rows link.row).terms
-    → IsMoving rows links l before after link.next (slice_set reaches link.row value)
+    → IsMoving rows links l before after (at - 1) (slice_set reaches link.row value)
 IsMoving-more rows links l before after at value reaches link same moving last leads is = record {
   bound = link.row;
   within = omega (arith, moving.within, last.below);
@@ -247,12 +216,10 @@ IsMoving-end rows links l before after at reaches same ended moving k within =
 
 -- all reaches counted anew
 pub AreCounted-moved : (rows : List Row) (n : ℕ) (before after : ℕ → Value) (old new : Table) → AreCounted rows n before old
-    → new.heads.items ≡ old.heads.items → new.links.items ≡ old.links.items → new.enough.items ≡ old.enough.items → length new.reach.items ≡ n
+    → new.lists ≡ old.lists → new.enough.items ≡ old.enough.items → length new.reach.items ≡ n
     → ((k : ℕ) → k < n → get_or new.reach.items k 0 ≡ reach after (row_at rows k).terms) → AreCounted rows n after new
-AreCounted-moved rows n before after old new counted heads links enoughs count reached = record {
-  linked =
-      subst (λ (hs : List ℕ). AreLinked rows n hs new.links.items) (sym heads)
-      (subst (λ (ls : List Link). AreLinked rows n old.heads.items ls) (sym links) counted.linked);
+AreCounted-moved rows n before after old new counted lists enoughs count reached = record {
+  linked = subst (λ (ls : List (List Link)). AreLinked rows n ls) (sym lists) counted.linked;
   reach_length = count;
   enough_length = ap (λ (ns : List ℕ). length ns) enoughs ∙ counted.enough_length;
   reached = reached;
@@ -271,10 +238,10 @@ same_after_unset values l free = λ terms lacks. reach-lacks values l terms free
 -- what a linked row loses
 pub reach-link : (rows : List Row) (values : ℕ → Value) (l : Literal) (bound : ℕ) (link : Link) → All IsRow rows → bound ≤ length rows
     → IsLastBelow rows (negate l) bound link → value_of values l ≡ Free
-    → reach values (row_at rows link.row).terms ≡ reach (set_true values l) (row_at rows link.row).terms + link.term.coef
+    → reach values (row_at rows link.row).terms ≡ reach (set_true values l) (row_at rows link.row).terms + link.coef
 reach-link rows values l bound link proper within last free =
     let apart : AreApart (row_at rows link.row).terms = (proper link.row (record { terms = []; degree = 0 }) (omega (arith, last.below))).variables in
-    reach-has values l (row_at rows link.row).terms link.term apart last.there last.literal free
+    reach-has values l (row_at rows link.row).terms (term_of (negate l) link) apart last.there refl free
 
 -- ---- a literal that is freed
 
@@ -317,24 +284,24 @@ unset_is values l from_one known set = fun_ext (unset_at values l from_one known
 -- ---- all rows
 
 pub IsCounted-moved : (rows : List Row) (old_values new_values : List Value) (old new : Table) → IsCounted rows old_values old → length new_values ≡ length old_values
-    → new.heads.items ≡ old.heads.items → new.links.items ≡ old.links.items → new.enough.items ≡ old.enough.items → length new.reach.items ≡ length rows
+    → new.lists ≡ old.lists → new.enough.items ≡ old.enough.items → length new.reach.items ≡ length rows
     → ((k : ℕ) → k < length rows → get_or new.reach.items k 0 ≡ reach (valued new_values) (row_at rows k).terms) → IsCounted rows new_values new
-IsCounted-moved rows old_values new_values old new counted same heads links enoughs count reached = record {
+IsCounted-moved rows old_values new_values old new counted same lists enoughs count reached = record {
   few = omega (arith, counted.few);
   proper = counted.proper;
   known = subst (λ (n : ℕ). All (KnowsVariables n) rows) (sym same) counted.known;
-  slots = omega (arith, ap (λ (hs : List ℕ). length hs) heads, counted.slots);
-  counted = AreCounted-moved rows (length rows) (valued old_values) (valued new_values) old new counted.counted heads links enoughs count reached;
+  slots = omega (arith, ap (λ (ls : List (List Link)). length ls) lists, counted.slots);
+  counted = AreCounted-moved rows (length rows) (valued old_values) (valued new_values) old new counted.counted lists enoughs count reached;
 }
 
 -- ---- what a contract sees
 
-pub same_counters : (s : SeenCounters) (rows : List Row) (values new : List Value) (links : List Link) → rows ≡ s.rows → values ≡ new → links ≡ s.links
-    → (let t : SeenCounters = record { rows = rows; values = values; links = links } in t) ≡ record s { values = new }
-same_counters s rows values new links same_rows same_values same_links =
-    ap (λ (rs : List Row). let t : SeenCounters = record { rows = rs; values = values; links = links } in t) same_rows
-    ∙ ap (λ (vs : List Value). let t : SeenCounters = record { rows = s.rows; values = vs; links = links } in t) same_values
-    ∙ ap (λ (ls : List Link). let t : SeenCounters = record { rows = s.rows; values = new; links = ls } in t) same_links
+pub same_counters : (s : SeenCounters) (rows : List Row) (values new : List Value) (lists : List (List Link)) → rows ≡ s.rows → values ≡ new → lists ≡ s.lists
+    → (let t : SeenCounters = record { rows = rows; values = values; lists = lists } in t) ≡ record s { values = new }
+same_counters s rows values new lists same_rows same_values same_lists =
+    ap (λ (rs : List Row). let t : SeenCounters = record { rows = rs; values = values; lists = lists } in t) same_rows
+    ∙ ap (λ (vs : List Value). let t : SeenCounters = record { rows = s.rows; values = vs; lists = lists } in t) same_values
+    ∙ ap (λ (ls : List (List Link)). let t : SeenCounters = record { rows = s.rows; values = new; lists = ls } in t) same_lists
 
 -- ---- a literal that becomes true, or is freed
 
@@ -342,7 +309,7 @@ same_counters s rows values new links same_rows same_values same_links =
 pub record IsLoss (rows : List Row) (l : Literal) (before after : ℕ → Value) : Type 0 where
   pub same : SameWithout l before after
   pub lost : (bound : ℕ) (x : Link) → bound ≤ length rows → IsLastBelow rows l bound x
-      → reach before (row_at rows x.row).terms ≡ reach after (row_at rows x.row).terms + x.term.coef
+      → reach before (row_at rows x.row).terms ≡ reach after (row_at rows x.row).terms + x.coef
 
 IsLoss-true : (rows : List Row) (values : ℕ → Value) (l : Literal) → All IsRow rows → value_of values l ≡ Free → IsLoss rows (negate l) values (set_true values l)
 IsLoss-true rows values l proper free = record {
@@ -367,28 +334,28 @@ IsLoss-unset rows values seen new l proper are from_one known set is =
 
 -- the row of the next link loses its coefficient
 pub moving-lost : (rows : List Row) (links : List Link) (l : Literal) (before after : ℕ → Value) (at value : ℕ) (reaches : List ℕ) (x : Link) → IsLoss rows l before after
-    → (moving : IsMoving rows links l before after at reaches) → IsStep rows links l before moving.bound at reaches x → value + x.term.coef ≡ get_or reaches x.row 0
-    → IsMoving rows links l before after x.next (slice_set reaches x.row value)
+    → (moving : IsMoving rows links l before after at reaches) → IsStep rows links l before moving.bound at reaches x → value + x.coef ≡ get_or reaches x.row 0
+    → IsMoving rows links l before after (at - 1) (slice_set reaches x.row value)
 moving-lost rows links l before after at value reaches x loss moving step is =
     let value_is : value ≡ reach after (row_at rows x.row).terms = omega (arith, is, step.was, loss.lost moving.bound x moving.within step.last) in
     IsMoving-more rows links l before after at value reaches x loss.same moving step.last step.leads value_is
 
 -- the row of the next link gets its coefficient back
 pub moving-gained : (rows : List Row) (links : List Link) (l : Literal) (before after : ℕ → Value) (at value : ℕ) (reaches : List ℕ) (x : Link) → IsLoss rows l after before
-    → (moving : IsMoving rows links l before after at reaches) → IsStep rows links l before moving.bound at reaches x → value ≡ get_or reaches x.row 0 + x.term.coef
-    → IsMoving rows links l before after x.next (slice_set reaches x.row value)
+    → (moving : IsMoving rows links l before after at reaches) → IsStep rows links l before moving.bound at reaches x → value ≡ get_or reaches x.row 0 + x.coef
+    → IsMoving rows links l before after (at - 1) (slice_set reaches x.row value)
 moving-gained rows links l before after at value reaches x loss moving step is =
     let value_is : value ≡ reach after (row_at rows x.row).terms = omega (arith, is, step.was, loss.lost moving.bound x moving.within step.last) in
     IsMoving-more rows links l before after at value reaches x (λ terms lacks. sym (loss.same terms lacks)) moving step.last step.leads value_is
 
 -- a row's reach doesn't fall below 0
 pub loss-below : (rows : List Row) (links : List Link) (l : Literal) (before after : ℕ → Value) (at : ℕ) (reaches : List ℕ) (x : Link) → IsLoss rows l before after
-    → (moving : IsMoving rows links l before after at reaches) → IsStep rows links l before moving.bound at reaches x → x.term.coef ≤ get_or reaches x.row 0
+    → (moving : IsMoving rows links l before after at reaches) → IsStep rows links l before moving.bound at reaches x → x.coef ≤ get_or reaches x.row 0
 loss-below rows links l before after at reaches x loss moving step = omega (arith, step.was, loss.lost moving.bound x moving.within step.last)
 
 -- a row's reach doesn't rise past what fits
 pub gain-fits : (rows : List Row) (links : List Link) (l : Literal) (before after : ℕ → Value) (at : ℕ) (reaches : List ℕ) (x : Link) (table : Table) (values : ℕ → Value)
     → AreCounted rows (length rows) values table → IsLoss rows l after before
-    → (moving : IsMoving rows links l before after at reaches) → IsStep rows links l before moving.bound at reaches x → get_or reaches x.row 0 + x.term.coef < 2 ^ 64
+    → (moving : IsMoving rows links l before after at reaches) → IsStep rows links l before moving.bound at reaches x → get_or reaches x.row 0 + x.coef < 2 ^ 64
 gain-fits rows links l before after at reaches x table values counted loss moving step =
     omega (arith, step.was, loss.lost moving.bound x moving.within step.last, counted.fits x.row step.there, reach-le_free after (row_at rows x.row).terms)

@@ -21,6 +21,7 @@ pub mod ValueLemmas
 -- Where literals stand in rows, and the kept reaches:
 pub mod ReachLemmas
 pub mod LinkLemmas
+pub mod FewLemmas
 pub mod CountLemmas
 -- How a trail keeps its literals:
 pub mod PathLemmas

@@ -14,7 +14,7 @@ use Rattle.rows.specs.declared.lit.Term.{Term}
 use Rattle.rows.specs.declared.partial.Value.{Value}
 use Rattle.rows.specs.declared.partial.Value.TheVariants.{True, Free}
 use Rattle.propagate.specs.Trails.{AreLawful, EachEntry, IsForcedBy, IsGrown, IsLawful, IsNew, IsNumbered, NamesConflict, level_of, values_of}
-use Rattle.propagate.specs.Links.{IsLastBelow, Lacks, LeadsBelow}
+use Rattle.propagate.specs.Links.{IsLastBelow, IsListed, Lacks, LeadsBelow, links_of}
 use Rattle.propagate.specs.Numbered.{row_at}
 use Rattle.propagate.specs.Paths.{SeenPath, with_entries}
 use Rattle.propagate.specs.Looks.{AreGivenSeen, AreSound, IsForcedIn, IsGrownOver, IsReady, IsSeen, IsUnforced}
@@ -338,33 +338,43 @@ pub record IsVisiting (old now : SeenPath) (looked : Looked) (l : Literal) (at :
   pub literal : (d : Entry) → negate (get_or now.entries looked.entries d).lit ≡ l
   pub bound : ℕ
   pub within : bound ≤ now.given
-  pub leads : LeadsBelow now.rows now.links l bound at
+  pub listed : IsListed now.rows now.given l (links_of now.lists l)
+  pub leads : LeadsBelow now.rows (links_of now.lists l) l bound at
   pub above : (k : ℕ) → bound ≤ k → k < now.given → k < looked.rows → IsSeen (row_at now.rows k) now.entries (looked.entries + 1)
 
 pub IsVisiting-none : (path : SeenPath) (looked : Looked) (l : Literal) (at : ℕ) → IsReady path looked → looked.entries < length path.entries
-    → ((d : Entry) → negate (get_or path.entries looked.entries d).lit ≡ l) → LeadsBelow path.rows path.links l path.given at → IsVisiting path path looked l at
-IsVisiting-none path looked l at ready there is leads = record {
+    → ((d : Entry) → negate (get_or path.entries looked.entries d).lit ≡ l) → IsListed path.rows path.given l (links_of path.lists l) → at ≡ length (links_of path.lists l) → IsVisiting path path looked l at
+IsVisiting-none path looked l at ready there is listed count = record {
   grown = IsGrownOver-none path ready.sound;
   ready = ready;
   there = there;
   literal = is;
   bound = path.given;
   within = omega arith;
-  leads = leads;
+  listed = listed;
+  leads = subst (λ (n : ℕ). LeadsBelow path.rows (links_of path.lists l) l path.given n) (sym count) listed.all;
   above = λ k past inside below. absurd (omega arith);
 }
+
+-- the next row of a literal
+pub visiting_last : (old now : SeenPath) (looked : Looked) (l : Literal) (at : ℕ) (x : Link) → (visiting : IsVisiting old now looked l at) → 0 < at → x ≡ get_or (links_of now.lists l) (at - 1) x
+    → IsLastBelow now.rows l visiting.bound x
+visiting_last old now looked l at x visiting some read =
+    subst (λ (y : Link). IsLastBelow now.rows l visiting.bound y) (sym read) (visiting.leads.some (at - 1) x (omega arith))
 
 lacked : (row : Row) (es : List Entry) (from : ℕ) (l : Literal) → ((d : Entry) → negate (get_or es from d).lit ≡ l) → Lacks l row.terms → IsSeen row es from → IsSeen row es (from + 1)
 lacked row es from l is lacks seen = seen-next row es from (λ d. subst (λ (m : Literal). Lacks m row.terms) (sym (is d)) lacks) seen
 
 -- one row more was looked at
-pub IsVisiting-more : (old now new : SeenPath) (looked : Looked) (l : Literal) (at : ℕ) (link : Link) → (visiting : IsVisiting old now looked l at)
-    → IsLastBelow now.rows l visiting.bound link → LeadsBelow now.rows now.links l link.row link.next
-    → IsGrownOver now new → IsQuietRow (values_of new.entries) (row_at new.rows link.row) → IsVisiting old new looked l link.next
-IsVisiting-more old now new looked l at link visiting last leads grown quiet =
-    subst (λ (p : SeenPath). IsVisiting old p looked l link.next) (sym grown.same) next where
+pub IsVisiting-more : (old now new : SeenPath) (looked : Looked) (l : Literal) (at : ℕ) (link : Link) → IsVisiting old now looked l at → 0 < at → link ≡ get_or (links_of now.lists l) (at - 1) link
+    → IsGrownOver now new → IsQuietRow (values_of new.entries) (row_at new.rows link.row) → IsVisiting old new looked l (at - 1)
+IsVisiting-more old now new looked l at link visiting some read grown quiet =
+    subst (λ (p : SeenPath). IsVisiting old p looked l (at - 1)) (sym grown.same) next where
       es : List Entry
       es = new.entries
+
+      last : IsLastBelow now.rows l visiting.bound link
+      last = visiting_last old now looked l at link visiting some read
 
       quiet_now : IsQuietRow (values_of es) (row_at now.rows link.row)
       quiet_now = subst (λ (p : SeenPath). IsQuietRow (values_of es) (row_at p.rows link.row)) grown.same quiet
@@ -372,7 +382,7 @@ IsVisiting-more old now new looked l at link visiting last leads grown quiet =
       grow : (k : ℕ) → IsSeen (row_at now.rows k) now.entries (looked.entries + 1) → IsSeen (row_at now.rows k) es (looked.entries + 1)
       grow k seen = seen-grown (row_at now.rows k) now.rows now.vars now.entries es (looked.entries + 1) (omega (arith, visiting.there)) grown.lawful grown.grown seen
 
-      next : IsVisiting old (with_entries now es) looked l link.next
+      next : IsVisiting old (with_entries now es) looked l (at - 1)
       next = record {
         grown = record {
           same = ap (λ (p : SeenPath). with_entries p es) visiting.grown.same;
@@ -387,7 +397,10 @@ IsVisiting-more old now new looked l at link visiting last leads grown quiet =
             ∙ visiting.literal d;
         bound = link.row;
         within = omega (arith, last.below, visiting.within);
-        leads = leads;
+        listed = visiting.listed;
+        leads =
+            subst (λ (x : Link). LeadsBelow now.rows (links_of now.lists l) l x.row (at - 1)) (sym read)
+            (visiting.listed.each (at - 1) link (omega (arith, visiting.leads.within)));
         above = λ k past inside below. elim (cases_lt link.row k) [
           | inl later ↦ elim (cases_lt k visiting.bound) [
             | inl between ↦
@@ -399,6 +412,32 @@ IsVisiting-more old now new looked l at link visiting last leads grown quiet =
               subst (λ (i : ℕ). IsSeen (row_at now.rows i) es (looked.entries + 1)) is (λ none. quiet_now)
         ];
       }
+
+-- rows that are quiet are passed over
+pub IsVisiting-past : (old now : SeenPath) (looked : Looked) (l : Literal) (to n : ℕ) → IsVisiting old now looked l (to + n)
+    → ((i : ℕ) (d : Link) → to ≤ i → i < to + n → IsQuietRow (values_of now.entries) (row_at now.rows (get_or (links_of now.lists l) i d).row)) → IsVisiting old now looked l to
+IsVisiting-past old now looked l to zero visiting quiet =
+    let same : to + zero ≡ to = omega arith in
+    subst (λ (at : ℕ). IsVisiting old now looked l at) same visiting
+IsVisiting-past old now looked l to (suc n) visiting quiet =
+    let no_link : Link = record { row = 0; coef = 0 } in
+    let link : Link = get_or (links_of now.lists l) (to + n) no_link in
+    let place : to + suc n - 1 ≡ to + n = omega arith in
+    let within : to + n < length (links_of now.lists l) = omega (arith, visiting.leads.within) in
+    let read : link ≡ get_or (links_of now.lists l) (to + suc n - 1) link =
+    get_or_default (links_of now.lists l) (to + n) no_link link within ∙ ap (λ (i : ℕ). get_or (links_of now.lists l) i link) (sym place) in
+    let next : IsVisiting old now looked l (to + suc n - 1) =
+    IsVisiting-more old now now looked l (to + suc n) link visiting (omega arith) read (IsGrownOver-none now visiting.ready.sound) (quiet (to + n) no_link (omega arith) (omega arith)) in
+    IsVisiting-past old now looked l to n (subst (λ (at : ℕ). IsVisiting old now looked l at) place next)
+    (λ i d from before. quiet i d from (omega arith))
+
+-- the links that are left
+pub IsVisiting-left : (old now : SeenPath) (looked : Looked) (l : Literal) (at to : ℕ) → to ≤ at → IsVisiting old now looked l at
+    → ((i : ℕ) (d : Link) → to ≤ i → i < at → IsQuietRow (values_of now.entries) (row_at now.rows (get_or (links_of now.lists l) i d).row)) → IsVisiting old now looked l to
+IsVisiting-left old now looked l at to within visiting quiet =
+    let sums : to + (at - to) ≡ at = omega arith in
+    IsVisiting-past old now looked l to (at - to) (subst (λ (n : ℕ). IsVisiting old now looked l n) (sym sums) visiting)
+    (λ i d from before. quiet i d from (omega arith))
 
 -- all rows of the entry were
 pub AreGivenSeen-end : (old now : SeenPath) (looked : Looked) (l : Literal) (at : ℕ) → IsVisiting old now looked l at → at ≡ 0 → AreGivenSeen now looked
@@ -439,9 +478,3 @@ pub forced_known : (path : SeenPath) (place slack from : ℕ) (f : Forced) → A
     → IsForcedIn (values_of path.entries) (row_at path.rows place).terms slack from f → f.lit.var ≤ path.vars
 forced_known path place slack from f sound there forced =
     subst (λ (l : Literal). l.var ≤ path.vars) (forced.literal no_term) (sound.known place (record { terms = []; degree = 0 }) there f.place no_term forced.there)
-
--- the next row of a literal
-pub visiting_last : (old now : SeenPath) (looked : Looked) (l : Literal) (at : ℕ) (x : Link) → (visiting : IsVisiting old now looked l at) → 0 < at → slice_get now.links (at - 1) ≡ Some x
-    → IsLastBelow now.rows l visiting.bound x
-visiting_last old now looked l at x visiting some got =
-    subst (λ (y : Link). IsLastBelow now.rows l visiting.bound y) (get_or_from_slice_get now.links (at - 1) x x got) (visiting.leads.some (at - 1) x (omega arith))

@@ -80,7 +80,7 @@ path_of counters added es = record {
   vars = length counters.values;
   given = length counters.rows;
   rows = counters.rows ++ added;
-  links = counters.links;
+  lists = counters.lists;
   entries = es;
 }
 

@@ -8,4 +8,4 @@ use Rattle.propagate.specs.declared.link.Link.{Link}
 pub record SeenCounters : Type 0 where
   pub rows : List Row
   pub values : List Value
-  pub links : List Link
+  pub lists : List (List Link)

@@ -1,5 +1,5 @@
 -- How the rows are found in which a literal stands.
-use Rattle.std.specs.Prelude.{◌≡◌, ◌≢◌, ℕ, ◌+◌, ◌<◌, ◌≤◌, List, length, slice_index_or, Contains}
+use Rattle.std.specs.Prelude.{◌≡◌, ◌≢◌, ℕ, ◌+◌, ◌<◌, ◌≤◌, List, [], length, slice_index_or, Contains}
 use Rattle.std.specs.List.{All}
 use Rattle.rows.specs.Codes.{code_of}
 use Rattle.rows.specs.Literals.{Literal}
@@ -12,37 +12,32 @@ use Rattle.propagate.specs.Numbered.{row_at}
 abbrev pub Lacks : Literal → List Term → Type 0
 Lacks l terms = All (λ t. t.lit ≢ l) terms
 
+-- the links of a literal
+abbrev pub links_of : List (List Link) → Literal → List Link
+links_of lists l = slice_index_or lists (code_of l) []
+
+-- the term for which a link of a literal stands
+abbrev pub term_of : Literal → Link → Term
+term_of l link = record { coef = link.coef; lit = l }
+
 -- the link's row is the last one below a bound in which the literal stands
 pub record IsLastBelow (rows : List Row) (l : Literal) (bound : ℕ) (link : Link) : Type 0 where
-  pub literal : link.term.lit ≡ l
   pub below : link.row < bound
-  pub there : Contains (row_at rows link.row).terms link.term
+  pub there : Contains (row_at rows link.row).terms (term_of l link)
   pub between : (k : ℕ) → link.row < k → k < bound → Lacks l (row_at rows k).terms
 
--- a number that leads to that link: one above its place, or 0 where the literal stands in no row below the bound
+-- the last of so many links leads to the last row below a bound in which the literal stands; there is none where they are 0
 pub record LeadsBelow (rows : List Row) (links : List Link) (l : Literal) (bound at : ℕ) : Type 0 where
   pub none : at ≡ 0 → (k : ℕ) → k < bound → Lacks l (row_at rows k).terms
   pub within : at ≤ length links
   pub some : (i : ℕ) (d : Link) → at ≡ i + 1 → IsLastBelow rows l bound (slice_index_or links i d)
 
--- each literal's number leads to its link in the first n rows, and each link's to the one in the rows before its own
-pub record AreLinked (rows : List Row) (n : ℕ) (heads : List ℕ) (links : List Link) : Type 0 where
-  pub first : (l : Literal) → code_of l < length heads → LeadsBelow rows links l n (slice_index_or heads (code_of l) 0)
-  pub next : (i : ℕ) (d : Link) → i < length links
-      → LeadsBelow rows links (slice_index_or links i d).term.lit (slice_index_or links i d).row (slice_index_or links i d).next
-  pub inside : (i : ℕ) (d : Link) → i < length links → (slice_index_or links i d).row ≤ n
+-- the links of a literal in the first n rows: those before each of them lead to the rows before its own
+pub record IsListed (rows : List Row) (n : ℕ) (l : Literal) (links : List Link) : Type 0 where
+  pub all : LeadsBelow rows links l n (length links)
+  pub each : (i : ℕ) (d : Link) → i < length links → LeadsBelow rows links l (slice_index_or links i d).row i
+  pub inside : (i : ℕ) (d : Link) → i < length links → (slice_index_or links i d).row < n
 
--- a link that leads nowhere and stands for no term
-pub record IsEmptyLink (link : Link) : Type 0 where
-  pub coef : link.term.coef ≡ 0
-  pub row : link.row ≡ 0
-  pub next : link.next ≡ 0
-
--- a link was put at a place: behind the others, or where an empty one was
-pub record IsPut (old new : List Link) (place : ℕ) (link : Link) : Type 0 where
-  pub there : place < length new
-  pub is : (d : Link) → slice_index_or new place d ≡ link
-  pub others : (i : ℕ) (d : Link) → i < length old → i ≢ place → slice_index_or new i d ≡ slice_index_or old i d
-  pub longer : length old ≤ length new
-  pub only : (i : ℕ) → length old ≤ i → i < length new → i ≡ place
-  pub was_empty : (d : Link) → place < length old → (slice_index_or old place d).term.coef ≡ 0
+-- each literal has its links in the first n rows
+abbrev pub AreLinked : List Row → ℕ → List (List Link) → Type 0
+AreLinked rows n lists = (l : Literal) → code_of l < length lists → IsListed rows n l (links_of lists l)

@@ -16,7 +16,7 @@ pub record SeenPath : Type 0 where
   pub vars : ℕ
   pub given : ℕ
   pub rows : List Row
-  pub links : List Link
+  pub lists : List (List Link)
   pub entries : List Entry
 
 -- 1 for a value, 0 where a variable is free

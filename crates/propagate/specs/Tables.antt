@@ -1,7 +1,6 @@
 -- How the reaches of rows are kept.
 use Rattle.std.specs.Prelude.{◌≡◌, ℕ, ◌+◌, ◌*◌, ◌^◌, ◌<◌, ◌≤◌, List, length, slice_index_or}
 use Rattle.std.specs.List.{All}
-use Rattle.std.specs.Vec.{vec_capacity}
 use Rattle.rows.specs.Rows.{IsRow, Row}
 use Rattle.rows.specs.Partials.{reach}
 use Rattle.rows.specs.Values.{valued}
@@ -19,7 +18,7 @@ IsEnough row enough = (reached : ℕ) → enough ≤ reached → reached + 1 < 2
 
 -- the first n rows are linked, and their reaches are those under the values
 pub record AreCounted (rows : List Row) (n : ℕ) (values : ℕ → Value) (table : Table) : Type 0 where
-  pub linked : AreLinked rows n table.heads.items table.links.items
+  pub linked : AreLinked rows n table.lists
   pub reach_length : length table.reach.items ≡ n
   pub enough_length : length table.enough.items ≡ n
   pub reached : (k : ℕ) → k < n → slice_index_or table.reach.items k 0 ≡ reach values (row_at rows k).terms
@@ -31,22 +30,5 @@ pub record IsCounted (rows : List Row) (values : List Value) (table : Table) : T
   pub few : length values < 2 ^ 32
   pub proper : All IsRow rows
   pub known : All (KnowsVariables (length values)) rows
-  pub slots : length table.heads.items ≡ 2 * length values + 2
+  pub slots : length table.lists ≡ 2 * length values + 2
   pub counted : AreCounted rows (length rows) (valued values) table
-
--- room for so many links, of which there are fewer than 2^32
-pub record HasRoomForLinks (table : Table) (terms : ℕ) : Type 0 where
-  pub few : length table.links.items + terms < 2 ^ 32
-  pub links : length table.links.items + terms ≤ vec_capacity table.links
-
--- room for one more row of so many terms
-pub record HasRoom (table : Table) (terms : ℕ) : Type 0 where
-  pub links : HasRoomForLinks table terms
-  pub reach : length table.reach.items + 1 ≤ vec_capacity table.reach
-  pub enough : length table.enough.items + 1 ≤ vec_capacity table.enough
-
-pub record IsSameTable (old new : Table) : Type 0 where
-  pub heads : new.heads.items ≡ old.heads.items
-  pub links : new.links.items ≡ old.links.items
-  pub reach : new.reach.items ≡ old.reach.items
-  pub enough : new.enough.items ≡ old.enough.items

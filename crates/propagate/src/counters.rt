@@ -1,18 +1,19 @@
 //! Rows under values that come and go, with the reach of each row kept. This is counter propagation of pseudo-Boolean
 //! constraints: a row's slack is its reach less its degree.
-ghost use Rattle.std.specs.Prelude.{◌≡◌, ◌+◌, ◌-◌, ◌*◌, ◌^◌, ◌<◌, ◌≤◌, length, replicate, true};
-ghost use Rattle.std.specs.Prelude.{slice_get, slice_set, Some, IfOk, OnOk};
+ghost use Rattle.std.specs.Prelude.{◌≡◌, ℕ, ◌+◌, ◌-◌, ◌*◌, ◌^◌, ◌<◌, ◌≤◌, length, replicate, true};
+ghost use Rattle.std.specs.Prelude.{slice_index_or, slice_set, IfOk, OnOk};
 ghost use Rattle.std.specs.List.{All};
 ghost use Rattle.rows.specs.Partials as partials;
 ghost use Rattle.rows.specs.Partials.{IsQuietRow, as_value, value_of};
 ghost use Rattle.rows.specs.Rows.{IsRow};
 ghost use Rattle.rows.specs.Values.{valued};
-ghost use Rattle.propagate.specs.Links.{LeadsBelow};
+ghost use Rattle.propagate.specs.Links.{IsListed, links_of};
+ghost use Rattle.propagate.specs.declared.link.Link.{Link as ALink};
 ghost use Rattle.propagate.specs.Numbered.{row_at};
 ghost use Rattle.propagate.specs.Tables.{AreCounted};
 ghost use Rattle.propagate.specs.Trails.{KnowsVariables};
 
-use crate::link::{Link, slot};
+use crate::link::Link;
 use crate::numbered::NumberedRows;
 use crate::table::Table;
 use rows::{Lit, Partial, RowStore, Term, Value};
@@ -37,7 +38,7 @@ impl<'a> Model for Counters<'a> {
     ghost view = { λ c. record {
       rows = c.rows;
       values = c.values;
-      links = c.table.links.items;
+      lists = c.table.lists;
     } };
 
     ghost invariant = { λ c. IsCounted c.rows c.values c.table };
@@ -116,23 +117,43 @@ impl<'a> Counters<'a> {
         self.table.enough[k] <= self.table.reach[k]
     }
 
-    /// What leads to the last row in which a literal stands: one above the place of its link, or 0 where there is none.
-    pub(crate) fn head(&self, lit: Lit) -> u32
+    /// The rows in which a literal stands.
+    pub(crate) fn links(&self, lit: Lit) -> &[Link]
         requires { lit.var ≤ length self.now.values }
-        ensures { LeadsBelow self.now.rows self.now.links lit (length self.now.rows) result }
+        ensures are { result.now ≡ links_of self.now.lists lit }
+        ensures listed { IsListed self.now.rows (length self.now.rows) lit result.now }
     {
-        self.table.heads[slot(lit)]
+        self.table.lists.of(lit)
     }
 
-    /// The link to which this number leads.
-    pub(crate) fn link(&self, at: u32) -> Link
-        requires from_one { 1 ≤ at }
-        requires there { at ≤ length self.now.links }
-        ensures is { slice_get self.now.links (at - 1) ≡ Some result }
-        ensures within { result.row ≤ length self.now.rows }
-        ensures next { LeadsBelow self.now.rows self.now.links result.term.lit result.row result.next }
+    /// How many of the first `at` links of a literal are left where those at the end are passed over whose rows are surely
+    /// quiet.
+    pub(crate) fn past_quiet(&self, lit: Lit, at: usize) -> usize
+        requires known { lit.var ≤ length self.now.values }
+        requires within { at ≤ length (links_of self.now.lists lit) }
+        ensures within { result ≤ at }
+        ensures quiet { (i : ℕ) (d : ALink) → result ≤ i → i < at → IsQuietRow (valued self.now.values)
+            (row_at self.now.rows (slice_index_or (links_of self.now.lists lit) i d).row) }
     {
-        self.table.links[at as usize - 1]
+        let _links = self.links(lit);
+        let mut left = at;
+        'rows: while left > 0 {
+            let link = self.link(lit, left - 1);
+            if !self.is_enough(link.row as usize) {
+                return left;
+            }
+            left -= 1;
+        }
+        0
+    }
+
+    /// The row at a place among those in which a literal stands.
+    pub(crate) fn link(&self, lit: Lit, at: usize) -> Link
+        requires known { lit.var ≤ length self.now.values }
+        requires there { at < length (links_of self.now.lists lit) }
+        ensures { result ≡ slice_index_or (links_of self.now.lists lit) at result }
+    {
+        self.table.lists.link(lit, at)
     }
 
     /// Makes a free literal true.
@@ -142,13 +163,15 @@ impl<'a> Counters<'a> {
         ensures { self.new
             ≡ record self.old { values = slice_set self.old.values (lit.var - 1) (as_value lit.positive) } }
     {
-        let mut at = self.table.heads[slot(lit.negate())];
         let _var = lit.var();
         self.values.set(lit);
-        'links: while at > 0 {
-            let link = self.table.links[at as usize - 1];
-            self.table.reach[link.row as usize] -= u64::from(link.term.coef);
-            at = link.next;
+        let falsified = lit.negate();
+        let links = self.table.lists.of(falsified);
+        let mut at = links.len();
+        'rows: while at > 0 {
+            let link = self.table.lists.link(falsified, at - 1);
+            self.table.reach[link.row as usize] -= u64::from(link.coef);
+            at -= 1;
         }
     }
 
@@ -158,12 +181,14 @@ impl<'a> Counters<'a> {
         requires set { value_of (valued self.old.values) lit ≡ Value.True }
         ensures { self.new ≡ record self.old { values = slice_set self.old.values (lit.var - 1) Value.Free } }
     {
-        let mut at = self.table.heads[slot(lit.negate())];
         self.values.unset(lit.var());
-        'links: while at > 0 {
-            let link = self.table.links[at as usize - 1];
-            self.table.reach[link.row as usize] += u64::from(link.term.coef);
-            at = link.next;
+        let falsified = lit.negate();
+        let links = self.table.lists.of(falsified);
+        let mut at = links.len();
+        'rows: while at > 0 {
+            let link = self.table.lists.link(falsified, at - 1);
+            self.table.reach[link.row as usize] += u64::from(link.coef);
+            at -= 1;
         }
     }
 }
@@ -171,7 +196,7 @@ impl<'a> Counters<'a> {
 /// Counts so many rows, which are all, under values that are free.
 ///
 /// # Errors
-/// Only where memory runs out, or there would be 2^32 terms.
+/// Only where memory runs out.
 fn count_all(
     count: usize,
     numbered: &NumberedRows,
@@ -180,17 +205,17 @@ fn count_all(
 ) -> Result<(), AllocError>
     requires count { count ≡ length numbered.now }
     requires few { count < 2 ^ 32 }
+    requires few_variables { length values.now < 2 ^ 32 }
     requires free { valued values.now ≡ (λ v. Value.Free) }
     requires proper { All IsRow numbered.now }
     requires known { All (KnowsVariables (length values.now)) numbered.now }
-    requires slots { length table.old.heads.items ≡ 2 * length values.now + 2 }
+    requires slots { length table.old.lists ≡ 2 * length values.now + 2 }
     requires counted { AreCounted numbered.now 0 (valued values.now) table.old }
-    ensures slots { length table.new.heads.items ≡ 2 * length values.now + 2 }
+    ensures slots { OnOk result (length table.new.lists ≡ 2 * length values.now + 2) }
     ensures counted { OnOk result (AreCounted numbered.now count (valued values.now) table.new) }
 {
     for k in 0..count {
-        table.reserve(numbered.terms(k).len())?;
-        table.count(numbered, k, values);
+        table.count(numbered, k, values)?;
     }
     Ok(())
 }

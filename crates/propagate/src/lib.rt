@@ -12,6 +12,7 @@ mod entry;
 mod force;
 mod hang;
 mod link;
+mod lists;
 mod numbered;
 mod path;
 mod settle;

@@ -1,34 +1,16 @@
 //! Where a literal stands in rows.
 ghost use Rattle.std.specs.Prelude.{◌≡◌};
 ghost use Rattle.rows.specs.Codes.{code_of};
-ghost use Rattle.propagate.specs.Links.{IsEmptyLink};
 
-use rows::{Lit, Term};
+use rows::Lit;
 
-/// A term of a row, and where to go on to the row before it in which the same literal stands.
+/// A row in which a literal stands.
 #[derive(Clone, Copy, Debug)]
 pub(crate) struct Link {
-    pub(crate) term: Term,
     /// The row's place, from 0.
     pub(crate) row: u32,
-    /// One above the place of the next link, or 0 where there is none.
-    pub(crate) next: u32,
-}
-
-impl Link {
-    /// A link that leads nowhere and stands for no term.
-    pub(crate) fn empty() -> Link
-        ensures { IsEmptyLink result }
-    {
-        Link {
-            term: Term {
-                coef: 0,
-                lit: Lit::new(1, true),
-            },
-            row: 0,
-            next: 0,
-        }
-    }
+    /// The literal's coefficient in it.
+    pub(crate) coef: u32,
 }
 
 /// The place of a literal in a list by literals: twice its variable, and one more for a negation.

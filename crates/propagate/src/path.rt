@@ -1,5 +1,5 @@
 //! The entries of a trail, over rows under the values that they give.
-ghost use Rattle.std.specs.Prelude.{◌≡◌, ◌≢◌, ◌+◌, ◌-◌, ◌^◌, ◌<◌, ◌≤◌, ◌++◌, [], ◌∷◌, length, take, true, Some, None};
+ghost use Rattle.std.specs.Prelude.{◌≡◌, ◌≢◌, ℕ, ◌+◌, ◌-◌, ◌^◌, ◌<◌, ◌≤◌, ◌++◌, [], ◌∷◌, length, take, true, Some, None};
 ghost use Rattle.std.specs.Prelude.{slice_get, slice_index_or, IfOk, OnOk, OnErr};
 ghost use Rattle.std.specs.List.{All, AllPairs};
 ghost use Rattle.rows.specs.Cardinality.{at_least};
@@ -7,7 +7,8 @@ ghost use Rattle.rows.specs.Partials as partials;
 ghost use Rattle.rows.specs.Partials.{IsQuietRow, value_of};
 ghost use Rattle.rows.specs.Literals.{Literal};
 ghost use Rattle.propagate.specs.declared.entry.Entry.{Entry as AnEntry};
-ghost use Rattle.propagate.specs.Links.{LeadsBelow};
+ghost use Rattle.propagate.specs.Links.{IsListed, links_of};
+ghost use Rattle.propagate.specs.declared.link.Link.{Link as ALink};
 ghost use Rattle.propagate.specs.Numbered.{row_at};
 ghost use Rattle.propagate.specs.Trails.{IsBackTo, KnowsVariables, level_of, values_of};
 
@@ -42,7 +43,7 @@ impl<'a> Model for Path<'a> {
       vars = length p.counters.values;
       given = length p.counters.rows;
       rows = p.counters.rows ++ p.added;
-      links = p.counters.links;
+      lists = p.counters.lists;
       entries = p.entries.items;
     } };
 
@@ -104,22 +105,35 @@ impl<'a> Path<'a> {
         self.counters.degree(k)
     }
 
-    /// What leads to the last row in which a literal stands: one above the place of its link, or 0 where there is none.
-    pub(crate) fn head(&self, lit: Lit) -> u32
+    /// The rows in which a literal stands.
+    pub(crate) fn links(&self, lit: Lit) -> &[Link]
         requires { lit.var ≤ self.now.vars }
-        ensures { LeadsBelow self.now.rows self.now.links lit self.now.given result }
+        ensures are { result.now ≡ links_of self.now.lists lit }
+        ensures listed { IsListed self.now.rows self.now.given lit result.now }
     {
-        self.counters.head(lit)
+        self.counters.links(lit)
     }
 
-    /// The link to which this number leads.
-    pub(crate) fn link(&self, at: u32) -> Link
-        requires from_one { 1 ≤ at }
-        requires there { at ≤ length self.now.links }
-        ensures is { slice_get self.now.links (at - 1) ≡ Some result }
-        ensures next { LeadsBelow self.now.rows self.now.links result.term.lit result.row result.next }
+    /// How many of the first `at` links of a literal are left where those at the end are passed over whose rows are surely
+    /// quiet.
+    pub(crate) fn past_quiet(&self, lit: Lit, at: usize) -> usize
+        requires known { lit.var ≤ self.now.vars }
+        requires within { at ≤ length (links_of self.now.lists lit) }
+        ensures within { result ≤ at }
+        ensures quiet { (i : ℕ) (d : ALink) → result ≤ i → i < at → IsQuietRow (values_of self.now.entries)
+            (row_at self.now.rows (slice_index_or (links_of self.now.lists lit) i d).row) }
     {
-        self.counters.link(at)
+        let _links = self.counters.links(lit);
+        self.counters.past_quiet(lit, at)
+    }
+
+    /// The row at a place among those in which a literal stands.
+    pub(crate) fn link(&self, lit: Lit, at: usize) -> Link
+        requires known { lit.var ≤ self.now.vars }
+        requires there { at < length (links_of self.now.lists lit) }
+        ensures { result ≡ slice_index_or (links_of self.now.lists lit) at result }
+    {
+        self.counters.link(lit, at)
     }
 
     /// The reach of the row at place k.

@@ -115,15 +115,16 @@ fn visit_rows(path: &mut Path, looked: Looked, falsified: Lit) -> Option<Conflic
 {
     let _len = path.len();
     let _given = path.given();
-    let mut at = path.head(falsified);
-    'links: while at > 0 {
-        let link = path.link(at);
+    let links = path.links(falsified);
+    let mut at = path.past_quiet(falsified, links.len());
+    'rows: while at > 0 {
+        let link = path.link(falsified, at - 1);
         if !look(path, link.row as usize) {
             return Some(Conflict {
                 row: u64::from(link.row) + 1,
             });
         }
-        at = link.next;
+        at = path.past_quiet(falsified, at - 1);
     }
     None
 }

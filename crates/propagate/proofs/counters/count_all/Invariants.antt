@@ -5,6 +5,6 @@ use Rattle.propagate.proofs.counters.count_all.Given as goal
 
 abbrev pub invariant-loop-k : goal.invariant-loop-k
 invariant-loop-k l = record {
-  slots : length l.table.heads.items ≡ 2 * length l.values + 2;
+  slots : length l.table.lists ≡ 2 * length l.values + 2;
   counted : AreCounted l.numbered l.k (valued l.values) l.table;
 }

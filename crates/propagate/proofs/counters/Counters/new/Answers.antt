@@ -1,4 +1,4 @@
-use Rattle.std.proofs.Common.{◌≡◌, ◌+◌, ◌*◌, ℕ, List, length, ap, subst, sym, ◌∙◌, arith}
+use Rattle.std.proofs.Common.{◌≡◌, ◌+◌, ◌*◌, ℕ, List, [], length, ap, subst, sym, ◌∙◌, arith}
 use Rattle.std.proofs.lemmas.List.{length-replicate}
 use Rattle.std.specs.List.{All}
 use Rattle.rows.specs.Rows.{Row}
@@ -6,6 +6,7 @@ use Rattle.rows.specs.Values.{valued}
 use Rattle.rows.specs.declared.partial.Value.TheVariants.{Free}
 use Rattle.rows.proofs.TrailLemmas.{valued-none}
 use Rattle.propagate.specs.Tables.{AreCounted}
+use Rattle.propagate.specs.declared.link.Link.{Link}
 use Rattle.propagate.specs.Trails.{KnowsVariables}
 use Rattle.propagate.proofs.CountLemmas.{AreCounted-none}
 use Rattle.propagate.proofs.counters.Counters.new.Goals as goal
@@ -15,6 +16,10 @@ count_all-requires-clause-count c = c.len.ensures.len ∙ sym (ap length c.new-r
 
 pub count_all-requires-clause-few : goal.count_all-requires-clause-few
 count_all-requires-clause-few c = c.len.ensures.few
+
+pub count_all-requires-clause-few_variables : goal.count_all-requires-clause-few_variables
+count_all-requires-clause-few_variables c =
+    omega (arith, ap length c.in_ok-values.ensures, length-replicate c.args.vars Free, c.ranges.vars.fits)
 
 pub count_all-requires-clause-free : goal.count_all-requires-clause-free
 count_all-requires-clause-free c = ap valued c.in_ok-values.ensures ∙ valued-none c.args.vars
@@ -32,8 +37,8 @@ pub count_all-requires-clause-slots : goal.count_all-requires-clause-slots
 count_all-requires-clause-slots c =
     omega (
       arith,
-      ap length c.in_ok-table.ensures.heads,
-      length-replicate {A = ℕ} (2 * c.args.vars + 2) 0,
+      ap (λ (ls : List (List Link)). length ls) c.in_ok-table.ensures.lists,
+      length-replicate {A = List Link} (2 * c.args.vars + 2) [],
       ap length c.in_ok-values.ensures,
       length-replicate c.args.vars Free,
     )
@@ -41,7 +46,7 @@ count_all-requires-clause-slots c =
 pub count_all-requires-clause-counted : goal.count_all-requires-clause-counted
 count_all-requires-clause-counted c =
     AreCounted-none c.new-rows.result (valued c.in_ok-values.values) (2 * c.args.vars + 2) c.in_ok-table.table
-    c.in_ok-table.ensures.heads c.in_ok-table.ensures.links c.in_ok-table.ensures.reach c.in_ok-table.ensures.enough
+    c.in_ok-table.ensures.lists c.in_ok-table.ensures.reach c.in_ok-table.ensures.enough
 
 pub invariant_of-result : goal.invariant_of-result
 invariant_of-result c =
@@ -51,7 +56,7 @@ invariant_of-result c =
       proper = c.len-len.ensures.rows;
       known = subst (λ (n : ℕ). All (KnowsVariables n) c.new-rows.result) (sym count)
           (subst (λ (rows : List Row). All (KnowsVariables c.args.vars) rows) (sym c.new-rows.ensures) c.requires);
-      slots = c.count_all.ensures.slots;
+      slots = c.in_ok-count_all.ensures.slots;
       counted = subst (λ (n : ℕ). AreCounted c.new-rows.result n (valued c.in_ok-values.values) c.count_all.new.table)
           (c.len.ensures.len ∙ sym (ap length c.new-rows.ensures)) c.in_ok-count_all.ensures.counted;
     }
