@@ -88,6 +88,7 @@ pub(crate) fn raise_all(trail: &Trail, parts: &[usize], order: &mut Order)
     requires inside { All (λ k. k < length trail.now.entries) parts.now }
     ensures { order.new.vars ≡ order.old.vars }
 {
+    let _len = trail.len();
     for k in parts {
         order.raise(trail.entry(*k).lit);
     }

@@ -23,8 +23,3 @@ pub raise_all-requires-clause-inside : goal.raise_all-requires-clause-inside
 raise_all-requires-clause-inside c =
     subst (λ (ks : List ℕ). All (λ k. k < length c.args.trail.now.entries) ks) (sym c.deref-2.ensures.value)
     c.in_ok-collect.ensures.parts
-
-pub count_levels-requires-clause-inside : goal.count_levels-requires-clause-inside
-count_levels-requires-clause-inside c =
-    subst (λ (ks : List ℕ). All (λ k. k < length c.args.trail.now.entries) ks) (sym c.deref-4.ensures.value)
-    c.in_ok-collect.ensures.parts
