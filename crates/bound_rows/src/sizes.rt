@@ -10,7 +10,9 @@ ghost use Rattle.bound_rows.specs.Sizes as sizes;
 
 use crate::groups::{between_terms, lead_terms};
 use crate::separation::se1_terms;
-use encoding_base::{Subject, key_at, pair_total, places_of, slot_numbers, subject_at, subject_count};
+use encoding_base::{
+    Subject, key_at, pair_total, places_of, slot_numbers, subject_at, subject_count,
+};
 use encoding_sizes::literal_count;
 use league::{Class, ClassName};
 

@@ -124,7 +124,10 @@ fn firsts(n: u16, window: u64) -> &'static [u16]
     ensures firsts { result.now ≡ range_with_len 0 (counts.slot_count n + 1 - window) }
     ensures few { length result.now ≤ 78 }
 {
-    consecutive(0, (u64::from(slot_count(n)) + 1).saturating_sub(window) as u16)
+    consecutive(
+        0,
+        (u64::from(slot_count(n)) + 1).saturating_sub(window) as u16,
+    )
 }
 
 /// So many consecutive numbers.

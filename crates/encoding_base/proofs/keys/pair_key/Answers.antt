@@ -32,8 +32,7 @@ returns-in-Fa2-clause-key c =
 pub returns-in-Fa2-clause-listable : goal.returns-in-Fa2-clause-listable
 returns-in-Fa2-clause-listable c =
     let within : 0 + (c.args.place + 1) ≤ slot_count c.args.n =
-    omega (arith, c.requires.place, ap (width c.args.n) c.in-Fa2.is) in
-    (
+    omega (arith, c.requires.place, ap (width c.args.n) c.in-Fa2.is) in (
       c.requires.pair,
       run_ascends c.args.n 0 (c.args.place + 1) c.consecutive-slots.result.now c.consecutive-slots.ensures.numbers within,
     )
@@ -58,8 +57,7 @@ returns-in-Se1-clause-listable c =
     let within : c.args.place + c.separation_window.result ≤ slot_count n =
     omega (arith, c.requires.place, ap (width n) c.in-Se1.is, c.separation_window.ensures) in
     let first : c.args.first < n = omega (arith, c.requires.pair.order, c.requires.pair.within) in
-    subst (λ (k : Counted). IsListable n k) (sym c.new.ensures.counted)
-    (
+    subst (λ (k : Counted). IsListable n k) (sym c.new.ensures.counted) (
       first,
       one_team n c.args.second c.consecutive.result.now c.requires.pair.within c.consecutive.ensures.numbers,
       run_ascends n c.args.place c.separation_window.result c.consecutive-in-Se1.result.now

@@ -54,8 +54,7 @@ returns-in-Ca3-clause-listable c =
     let n = c.args.n in
     let within : c.args.place + c.in-Ca3.intp ≤ slot_count n =
     omega (arith, c.requires.place, ap (width n) c.in-Ca3.is) in
-    subst (λ (k : Counted). IsListable n k) (sym c.new-in-Ca3.ensures.counted)
-    (
+    subst (λ (k : Counted). IsListable n k) (sym c.new-in-Ca3.ensures.counted) (
       c.requires.team,
       c.team_numbers-in-Ca3.ensures.order,
       run_ascends n c.args.place c.in-Ca3.intp c.consecutive.result.now c.consecutive.ensures.numbers within,
