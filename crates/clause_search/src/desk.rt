@@ -25,7 +25,7 @@ pub(crate) struct Desk {
     pub(crate) clause: Vec<Lit>,
     pub(crate) levels: u32,
     pub(crate) hints: Vec<u64>,
-    /// The same hints as the log numbers rows.
+    /// The hints of the clause as the log numbers rows.
     pub(crate) names: Vec<u64>,
     /// How many rows stand before the learnt clauses.
     pub(crate) given: u64,

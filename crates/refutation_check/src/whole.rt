@@ -29,7 +29,7 @@ pub fn check(alloc: Global, rows: &RowStore, vars: u32, log: &Log) -> Result<Ver
     }
 }
 
-/// The same, if the log's steps take no more bytes than there is room for, as `has_room` of a checker counts them.
+/// The verdict of `check` on a log, if its steps take no more bytes than there is room for, as `has_room` of a checker counts them.
 ///
 /// # Errors
 /// `Full` exactly where some first steps take more, unless `Mem`, where memory runs out.
