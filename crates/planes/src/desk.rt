@@ -1,0 +1,121 @@
+//! What a search keeps.
+use crate::axioms::Axioms;
+use crate::draft::Draft;
+use crate::order::Order;
+use crate::plane::Plane;
+use crate::reason::Reason;
+use crate::restarts::Restarts;
+use crate::start::Start;
+use crate::stock::Stock;
+use crate::trail::Trail;
+use crate::units::Units;
+use rows::{Lit, RowStore};
+use std::alloc::{AllocError, Global};
+
+/// The rows, what is true, what guides the search, and the steps so far.
+#[derive(Drop)]
+pub(crate) struct Desk {
+    pub(crate) stock: Stock,
+    pub(crate) trail: Trail,
+    pub(crate) order: Order,
+    pub(crate) restarts: Restarts,
+    pub(crate) tools: Tools,
+}
+
+/// With what a conflict is analyzed.
+#[derive(Drop)]
+pub(crate) struct Tools {
+    pub(crate) plane: Plane,
+    pub(crate) reason: Reason,
+    pub(crate) axioms: Axioms,
+    pub(crate) units: Units,
+    pub(crate) draft: Draft,
+    pub(crate) lits: Vec<Lit>,
+    pub(crate) levels: Vec<usize>,
+}
+
+impl Desk {
+    /// The desk of a search over these rows and so many variables, which begins so.
+    ///
+    /// # Errors
+    /// Only where memory runs out.
+    pub(crate) fn new(
+        alloc: Global,
+        rows: &RowStore,
+        vars: u32,
+        start: Start,
+    ) -> Result<Desk, AllocError> {
+        let Start {
+            steps,
+            rows: more,
+            numbers,
+        } = start;
+        let mut stock = Stock::new(alloc, vars)?;
+        stock.add_all(rows, None)?;
+        stock.add_all(more, Some(numbers))?;
+        let draft = Draft {
+            steps,
+            rows: rows.len() as u64,
+        };
+        Ok(Desk {
+            stock,
+            trail: Trail::new(alloc, vars)?,
+            order: Order::new(alloc, vars)?,
+            restarts: Restarts::new(),
+            tools: Tools {
+                plane: Plane::new(alloc, vars)?,
+                reason: Reason::new(alloc),
+                axioms: Axioms::new(alloc, rows, vars)?,
+                units: Units::new(alloc, vars)?,
+                draft,
+                lits: Vec::new(alloc),
+                levels: Vec::new(alloc),
+            },
+        })
+    }
+
+    /// Goes back to the end of a level.
+    ///
+    /// # Errors
+    /// Only where memory runs out.
+    pub(crate) fn back_to(&mut self, level: usize) -> Result<(), AllocError> {
+        for _entry in 0..=self.trail.len() {
+            let Some((lit, did_count)) = self.trail.pop_above(level) else {
+                return Ok(());
+            };
+            if did_count {
+                self.stock.count_back(lit);
+            }
+            self.order.release(lit)?;
+        }
+        Ok(())
+    }
+
+    /// Plans the steps of what is true at level 0.
+    ///
+    /// # Errors
+    /// Only where memory runs out.
+    pub(crate) fn plan_units(&mut self) -> Result<(), AllocError> {
+        let tools = &mut self.tools;
+        tools
+            .units
+            .plan(&self.trail, &self.stock, &mut tools.draft)
+    }
+
+    /// Makes all true that rows force. The answer is the place of the first row in conflict, if there is one.
+    ///
+    /// # Errors
+    /// Only where memory runs out.
+    pub(crate) fn settle(&mut self, vars: u32) -> Result<Option<usize>, AllocError> {
+        for _entry in 0..=vars {
+            let Some(entry) = self.trail.count_next() else {
+                return Ok(None);
+            };
+            let conflict = self.stock.count(&mut self.trail, entry.lit)?;
+            if conflict.is_some() {
+                return Ok(conflict);
+            }
+        }
+        Ok(None)
+    }
+}

@@ -1,0 +1,104 @@
+//! What is learnt from a conflict.
+use crate::desk::Desk;
+use crate::round::round;
+use crate::search::Met;
+use crate::stock::Held;
+use crate::trail::{Standing, Trail};
+use rows::Term;
+use std::alloc::{AllocError, Global};
+
+/// Learns the row to which an analysis came, which isn't quiet at the end of a lower level.
+///
+/// # Errors
+/// Only where memory runs out.
+pub(crate) fn learn(alloc: Global, desk: &mut Desk) -> Result<Met, AllocError> {
+    let Some(level) = round(desk)? else {
+        return Ok(Met::Nothing);
+    };
+    let Some(held) = learnt_row(alloc, desk)? else {
+        return Ok(Met::Nothing);
+    };
+    let slack = desk.tools.plane.slack;
+    desk.back_to(level)?;
+    let row = desk.stock.add(held, slack)?;
+    if desk.stock.force(&mut desk.trail, row)? {
+        Ok(Met::Again(row))
+    } else {
+        Ok(Met::Learnt)
+    }
+}
+
+/// Ends the steps by the row to which an analysis came, which is in conflict at level 0.
+///
+/// # Errors
+/// Only where memory runs out.
+pub(crate) fn end_by_plane(alloc: Global, desk: &mut Desk) -> Result<Met, AllocError> {
+    let tools = &mut desk.tools;
+    tools.plane.divide(&mut tools.draft, 1)?;
+    let Some(held) = learnt_row(alloc, desk)? else {
+        return Ok(Met::Nothing);
+    };
+    let slack = desk.tools.plane.slack;
+    let row = desk.stock.add(held, slack)?;
+    end(desk, row)?;
+    Ok(Met::Refuted)
+}
+
+/// Ends the steps with the empty clause: the row at a place is in conflict at level 0.
+///
+/// # Errors
+/// Only where memory runs out.
+pub(crate) fn end(desk: &mut Desk, row: usize) -> Result<(), AllocError> {
+    let tools = &mut desk.tools;
+    tools
+        .units
+        .plan_end(&desk.trail, &desk.stock, &mut tools.draft, row)
+}
+
+/// The row to which an analysis came, if its coefficients are of 32 bits.
+fn learnt_row(alloc: Global, desk: &mut Desk) -> Result<Option<Held>, AllocError> {
+    let mut terms = Vec::new(alloc);
+    let plane = &desk.tools.plane;
+    for k in 0..plane.len() {
+        let Some((lit, count)) = plane.term(k) else {
+            continue;
+        };
+        let Ok(coef) = u32::try_from(count) else {
+            return Ok(None);
+        };
+        terms.push(Term { coef, lit })?;
+    }
+    let number = plane.number();
+    let degree = plane.degree;
+    let levels = count_levels(&desk.trail, &terms, &mut desk.tools.levels)?;
+    Ok(Some(Held {
+        terms,
+        degree,
+        number,
+        levels,
+    }))
+}
+
+/// From how many levels the false literals of a row come, and at least 1.
+fn count_levels(
+    trail: &Trail,
+    terms: &[Term],
+    levels: &mut Vec<usize>,
+) -> Result<usize, AllocError> {
+    levels.clear();
+    for term in terms {
+        if let Standing::False { level, .. } = trail.standing(term.lit) {
+            levels.push(level)?;
+        }
+    }
+    levels.sort_unstable();
+    let mut count: usize = 1;
+    let mut last = None;
+    for level in levels.as_slice() {
+        if last.is_some() && last != Some(*level) {
+            count = count.saturating_add(1);
+        }
+        last = Some(*level);
+    }
+    Ok(count)
+}

@@ -1,0 +1,168 @@
+//! The reason of a literal, divided so that it counts the literal once.
+use crate::axioms::Axioms;
+use crate::draft::Draft;
+use crate::numbers::{as_divisor, divided, rest};
+use crate::parts::Parts;
+use crate::stock::Held;
+use crate::trail::Trail;
+use rows::Lit;
+use std::alloc::{AllocError, Global};
+
+/// A literal with a coefficient.
+#[derive(Clone, Copy, Debug)]
+pub(crate) struct Scaled {
+    pub(crate) lit: Lit,
+    pub(crate) coef: i64,
+}
+
+/// A row that forces a literal, and its number. Like a plane, it only guides what is planned.
+#[derive(Drop)]
+pub(crate) struct Reason {
+    pub(crate) terms: Vec<Scaled>,
+    pub(crate) degree: i64,
+    pub(crate) number: u64,
+    parts: Parts,
+}
+
+/// The literal that a reason forces, and its place on the trail.
+#[derive(Clone, Copy)]
+pub(crate) struct Point {
+    pub(crate) lit: Lit,
+    pub(crate) place: usize,
+}
+
+impl Reason {
+    /// The row without terms.
+    pub(crate) fn new(alloc: Global) -> Reason {
+        Reason {
+            terms: Vec::new(alloc),
+            degree: 0,
+            number: 0,
+            parts: Parts::new(alloc),
+        }
+    }
+
+    /// Makes it this row.
+    ///
+    /// # Errors
+    /// Only where memory runs out.
+    pub(crate) fn load(&mut self, held: &Held) -> Result<(), AllocError> {
+        self.terms.clear();
+        for term in &held.terms {
+            self.terms.push(Scaled {
+                lit: term.lit,
+                coef: i64::from(term.coef),
+            })?;
+        }
+        self.degree = held.degree;
+        self.number = held.number;
+        Ok(())
+    }
+
+    /// What a literal counts.
+    fn coef(&self, lit: Lit) -> i64 {
+        for term in &self.terms {
+            if term.lit == lit {
+                return term.coef;
+            }
+        }
+        0
+    }
+
+    /// Divides the row by what it counts of the literal that it forces. Before that all that wasn't false is weakened to
+    /// multiples, and as much of what was false as leaves the degree. It says whether it could.
+    ///
+    /// # Errors
+    /// Only where memory runs out.
+    pub(crate) fn divide(
+        &mut self,
+        trail: &Trail,
+        draft: &mut Draft,
+        axioms: &mut Axioms,
+        point: Point,
+    ) -> Result<bool, AllocError> {
+        let divisor = self.coef(point.lit);
+        if divisor <= 1 {
+            return Ok(divisor == 1);
+        }
+        self.parts.begin(self.number)?;
+        for at in 0..self.terms.len() {
+            let less = self.open_rest(trail, point, at, divisor);
+            if less > 0 && !self.weaken(draft, axioms, at, less)? {
+                return Ok(false);
+            }
+        }
+        if !self.weaken_false(draft, axioms, point.lit, divisor)? {
+            return Ok(false);
+        }
+        self.number = draft.plan_sum(&self.parts, as_divisor(divisor))?;
+        for term in &mut self.terms {
+            term.coef = divided(term.coef, divisor);
+        }
+        self.degree = divided(self.degree, divisor);
+        Ok(true)
+    }
+
+    /// How much the kth literal counts more than a multiple of the divisor, where it wasn't false before a place.
+    fn open_rest(&self, trail: &Trail, point: Point, k: usize, divisor: i64) -> i64 {
+        match self.terms.get(k) {
+            Some(term) if term.lit != point.lit && !trail.is_false_before(term.lit, point.place) => {
+                rest(term.coef, divisor)
+            }
+            _ => 0,
+        }
+    }
+
+    /// Weakens false literals to multiples of the divisor while the divided degree stays: first those that vanish.
+    fn weaken_false(
+        &mut self,
+        draft: &mut Draft,
+        axioms: &mut Axioms,
+        forced: Lit,
+        divisor: i64,
+    ) -> Result<bool, AllocError> {
+        let mut spare = rest(self.degree.saturating_sub(1), divisor);
+        for pass in 0..2 {
+            for at in 0..self.terms.len() {
+                let Some(Scaled { lit, coef }) = self.terms.get(at).copied() else {
+                    return Ok(false);
+                };
+                let less = rest(coef, divisor);
+                let is_in_turn = pass == 1 || coef < divisor;
+                if less == 0 || less > spare || lit == forced || !is_in_turn {
+                    continue;
+                }
+                if !self.weaken(draft, axioms, at, less)? {
+                    return Ok(false);
+                }
+                spare = spare.saturating_sub(less);
+            }
+        }
+        Ok(true)
+    }
+
+    /// Takes so much off the kth term. It says whether it could.
+    fn weaken(
+        &mut self,
+        draft: &mut Draft,
+        axioms: &mut Axioms,
+        k: usize,
+        less: i64,
+    ) -> Result<bool, AllocError> {
+        let Some(Scaled { lit, coef }) = self.terms.get(k).copied() else {
+            return Ok(false);
+        };
+        let Some(axiom) = axioms.number(draft, lit.negate())? else {
+            return Ok(false);
+        };
+        self.parts.add(less, axiom)?;
+        self.degree = self.degree.saturating_sub(less);
+        if let Some(term) = self.terms.get_mut(k) {
+            *term = Scaled {
+                lit,
+                coef: coef.saturating_sub(less),
+            };
+        }
+        Ok(true)
+    }
+}

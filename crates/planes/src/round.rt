@@ -1,0 +1,109 @@
+//! The row at the end of an analysis, made short: what is decided at level 0 goes, and it is divided by the greatest
+//! coefficient that it forces with, so that mostly a clause or a row that counts is left.
+use crate::cut::weaken;
+use crate::desk::Desk;
+use crate::numbers::rest;
+use crate::trail::Standing;
+use std::alloc::AllocError;
+
+/// Makes the row short, and plans its step. The answer is the lowest level at whose end it isn't quiet, if there is one
+/// below the present level.
+///
+/// # Errors
+/// Only where memory runs out.
+pub(crate) fn round(desk: &mut Desk) -> Result<Option<usize>, AllocError> {
+    if !drop_decided(desk)? {
+        return Ok(None);
+    }
+    let Some(level) = first_active(desk) else {
+        return Ok(None);
+    };
+    let divisor = forcing_coef(desk);
+    if divisor > 1 && !weaken_all(desk, level, divisor)? {
+        return Ok(None);
+    }
+    let tools = &mut desk.tools;
+    let common = tools.plane.common_divisor(divisor);
+    tools
+        .plane
+        .divide(&mut tools.draft, divisor.saturating_mul(common))?;
+    if tools.plane.degree == 1 && tools.plane.greatest_coef() > 1 {
+        tools.plane.make_clause(&mut tools.draft, &mut tools.lits)?;
+    }
+    Ok(first_active(desk))
+}
+
+/// Takes the literals of level 0 out. It says whether it could.
+fn drop_decided(desk: &mut Desk) -> Result<bool, AllocError> {
+    for k in 0..desk.tools.plane.len() {
+        let Some((lit, coef)) = desk.tools.plane.term(k) else {
+            continue;
+        };
+        match desk.trail.standing(lit) {
+            Standing::True { level: 0 } => {
+                if !weaken(desk, lit, coef)? {
+                    return Ok(false);
+                }
+            }
+            Standing::False { level: 0, .. } => {
+                let unit = desk.tools.units.number(lit);
+                if unit == 0 {
+                    return Ok(false);
+                }
+                desk.tools.plane.take_out(lit, unit)?;
+            }
+            _ => {}
+        }
+    }
+    Ok(true)
+}
+
+/// The lowest level at whose end the row isn't quiet, if there is one below the present level.
+fn first_active(desk: &mut Desk) -> Option<usize> {
+    for level in 0..desk.trail.level() {
+        if desk.tools.plane.is_active(&desk.trail, level) {
+            return Some(level);
+        }
+    }
+    None
+}
+
+/// The greatest coefficient of a literal that is free at the end of the level at which the row was looked at last, if it is
+/// above the slack there, or else 1.
+fn forcing_coef(desk: &Desk) -> i64 {
+    let plane = &desk.tools.plane;
+    if plane.most > plane.slack {
+        plane.most.max(1)
+    } else {
+        1
+    }
+}
+
+/// Weakens the row so that it can be divided: each literal that isn't false at the end of a level to a multiple of the
+/// divisor, and false ones while the divided degree stays. It says whether it could.
+fn weaken_all(desk: &mut Desk, level: usize, divisor: i64) -> Result<bool, AllocError> {
+    for k in 0..desk.tools.plane.len() {
+        let Some((lit, coef)) = desk.tools.plane.term(k) else {
+            continue;
+        };
+        let less = rest(coef, divisor);
+        let is_false = desk.trail.side(lit, level) == Some(false);
+        if less > 0 && !is_false && !weaken(desk, lit, less)? {
+            return Ok(false);
+        }
+    }
+    let mut spare = rest(desk.tools.plane.degree.saturating_sub(1), divisor);
+    for k in 0..desk.tools.plane.len() {
+        let Some((lit, coef)) = desk.tools.plane.term(k) else {
+            continue;
+        };
+        let less = rest(coef, divisor);
+        if less > 0 && less <= spare {
+            if !weaken(desk, lit, less)? {
+                return Ok(false);
+            }
+            spare = spare.saturating_sub(less);
+        }
+    }
+    Ok(true)
+}

@@ -1,0 +1,275 @@
+//! The rows of a search, with what each can still reach.
+use crate::numbers::as_signed;
+use crate::trail::Trail;
+use rows::{Lit, RowStore, Term, Value};
+use std::alloc::{AllocError, Global};
+
+/// A row, and its number in the log. It was learnt from so many levels; a row from which the search began has none.
+#[derive(Drop)]
+pub(crate) struct Held {
+    pub(crate) terms: Vec<Term>,
+    pub(crate) degree: i64,
+    pub(crate) number: u64,
+    pub(crate) levels: usize,
+}
+
+/// How much more than its degree the literals of a row sum to that aren't false, and its greatest coefficient.
+#[derive(Clone, Copy, Debug)]
+struct Count {
+    slack: i64,
+    most: i64,
+}
+
+/// Where a literal stands: the place of the row, and the coefficient.
+#[derive(Clone, Copy, Debug)]
+struct Use {
+    row: u32,
+    coef: u32,
+}
+
+/// The rows at places from 0 on.
+#[derive(Drop)]
+pub(crate) struct Stock {
+    alloc: Global,
+    held: Vec<Held>,
+    counts: Vec<Count>,
+    /// Where each literal stands: first variable 1, then its negation, and so on.
+    uses: Vec<Vec<Use>>,
+    /// The places of the rows that lately fell to where they force or are in conflict.
+    active: Vec<u32>,
+    /// How many rows are learnt and kept.
+    pub(crate) learnt: usize,
+}
+
+impl Stock {
+    /// No row, for so many variables.
+    ///
+    /// # Errors
+    /// Only where memory runs out.
+    pub(crate) fn new(alloc: Global, vars: u32) -> Result<Stock, AllocError> {
+        let mut uses = Vec::new(alloc);
+        for _variable in 0..vars {
+            uses.push(Vec::new(alloc))?;
+            uses.push(Vec::new(alloc))?;
+        }
+        Ok(Stock {
+            alloc,
+            held: Vec::new(alloc),
+            counts: Vec::new(alloc),
+            uses,
+            active: Vec::new(alloc),
+            learnt: 0,
+        })
+    }
+
+    /// The number of places.
+    pub(crate) fn len(&self) -> usize {
+        self.held.len()
+    }
+
+    /// The row at a place, if there is one.
+    pub(crate) fn row(&self, at: usize) -> Option<&Held> {
+        self.held.get(at)
+    }
+
+    /// Adds all rows of a store. The row at its place k has the kth of these numbers, or without them the number k + 1.
+    ///
+    /// # Errors
+    /// Only where memory runs out.
+    pub(crate) fn add_all(&mut self, rows: &RowStore, numbers: Option<&[u64]>) -> Result<(), AllocError> {
+        for place in 0..rows.len() {
+            let number = match numbers {
+                None => place as u64 + 1,
+                Some(list) => list.get(place).copied().unwrap_or(0),
+            };
+            let slack = self.reach(rows.terms(place)).saturating_sub(as_signed(rows.degree(place)));
+            let held = Held {
+                terms: copied(self.alloc, rows.terms(place))?,
+                degree: as_signed(rows.degree(place)),
+                number,
+                levels: 0,
+            };
+            let _at = self.add(held, slack)?;
+        }
+        Ok(())
+    }
+
+    /// What terms sum to.
+    fn reach(&self, terms: &[Term]) -> i64 {
+        let mut sum: i64 = 0;
+        for term in terms {
+            sum = sum.saturating_add(i64::from(term.coef));
+        }
+        sum
+    }
+
+    /// Adds a row whose slack is this. The answer is its place.
+    ///
+    /// # Errors
+    /// Only where memory runs out.
+    pub(crate) fn add(&mut self, held: Held, slack: i64) -> Result<usize, AllocError> {
+        let at = self.held.len();
+        let most = list_uses(&mut self.uses, at, &held.terms)?;
+        if held.levels > 0 {
+            self.learnt = self.learnt.saturating_add(1);
+        }
+        self.counts.push(Count { slack, most })?;
+        self.held.push(held)?;
+        Ok(at)
+    }
+
+    /// Makes what the entry of a literal forces true, until the first row in conflict, whose place is the answer.
+    ///
+    /// # Errors
+    /// Only where memory runs out.
+    pub(crate) fn count(&mut self, trail: &mut Trail, lit: Lit) -> Result<Option<usize>, AllocError> {
+        self.active.clear();
+        if let Some(list) = self.uses.get(slot(lit.negate())) {
+            count_off(list, &mut self.counts, &mut self.active)?;
+        }
+        for place in &self.active {
+            let at = *place as usize;
+            if force(&self.held, &self.counts, at, trail)? {
+                return Ok(Some(at));
+            }
+        }
+        Ok(None)
+    }
+
+    /// Makes what the row at a place forces true, and says whether it is in conflict.
+    ///
+    /// # Errors
+    /// Only where memory runs out.
+    pub(crate) fn force(&self, trail: &mut Trail, at: usize) -> Result<bool, AllocError> {
+        force(&self.held, &self.counts, at, trail)
+    }
+
+    /// The entry of a literal counts no longer.
+    pub(crate) fn count_back(&mut self, lit: Lit) {
+        if let Some(list) = self.uses.get(slot(lit.negate())) {
+            count_on(list, &mut self.counts);
+        }
+    }
+
+    /// Drops the worse half of the learnt rows of more than two levels, but for those that stand as reasons: first those
+    /// from more levels, and of these the older ones.
+    ///
+    /// # Errors
+    /// Only where memory runs out.
+    pub(crate) fn drop_half(&mut self, trail: &Trail) -> Result<(), AllocError> {
+        let mut order: Vec<(usize, usize)> = Vec::new(self.alloc);
+        for (at, held) in self.held.iter().enumerate() {
+            if held.levels > 2 && !held.terms.is_empty() {
+                order.push((held.levels, usize::MAX - at))?;
+            }
+        }
+        order.sort_unstable();
+        for (rank, worse) in order.iter().enumerate() {
+            let at = usize::MAX - worse.1;
+            if rank >= order.len() / 2 && !is_reason(trail, at) {
+                empty(&mut self.held, at);
+                self.learnt = self.learnt.saturating_sub(1);
+            }
+        }
+        self.list_anew()
+    }
+
+    /// Lists anew where each literal stands.
+    fn list_anew(&mut self) -> Result<(), AllocError> {
+        for list in &mut self.uses {
+            list.clear();
+        }
+        for (at, held) in self.held.iter().enumerate() {
+            let _most = list_uses(&mut self.uses, at, &held.terms)?;
+        }
+        Ok(())
+    }
+}
+
+/// The place of a literal in the lists.
+fn slot(lit: Lit) -> usize {
+    let first = (lit.var() as usize - 1) * 2;
+    first + usize::from(!lit.positive())
+}
+
+/// A copy of terms.
+fn copied(alloc: Global, terms: &[Term]) -> Result<Vec<Term>, AllocError> {
+    let mut list = Vec::new(alloc);
+    list.extend_from_slice(terms)?;
+    Ok(list)
+}
+
+/// Lists the literals of the row at a place. The answer is its greatest coefficient.
+fn list_uses(uses: &mut Vec<Vec<Use>>, at: usize, terms: &[Term]) -> Result<i64, AllocError> {
+    let row = u32::try_from(at).unwrap_or(u32::MAX);
+    let mut most = 0;
+    for term in terms {
+        if let Some(list) = uses.get_mut(slot(term.lit)) {
+            list.push(Use {
+                row,
+                coef: term.coef,
+            })?;
+        }
+        most = term.coef.max(most);
+    }
+    Ok(i64::from(most))
+}
+
+/// A literal became false that stands there.
+fn count_off(uses: &[Use], counts: &mut [Count], active: &mut Vec<u32>) -> Result<(), AllocError> {
+    for place in uses {
+        if let Some(count) = counts.get_mut(place.row as usize) {
+            count.slack = count.slack.saturating_sub(i64::from(place.coef));
+            if count.slack < count.most {
+                active.push(place.row)?;
+            }
+        }
+    }
+    Ok(())
+}
+
+/// A literal is false no longer that stands there.
+fn count_on(uses: &[Use], counts: &mut [Count]) {
+    for place in uses {
+        if let Some(count) = counts.get_mut(place.row as usize) {
+            count.slack = count.slack.saturating_add(i64::from(place.coef));
+        }
+    }
+}
+
+/// Makes what the row at a place forces true, and says whether it is in conflict.
+fn force(held: &[Held], counts: &[Count], at: usize, trail: &mut Trail) -> Result<bool, AllocError> {
+    let (Some(row), Some(count)) = (held.get(at), counts.get(at)) else {
+        return Ok(false);
+    };
+    if count.slack < 0 {
+        return Ok(true);
+    }
+    for term in &row.terms {
+        if i64::from(term.coef) > count.slack {
+            if let Value::Free = trail.value(term.lit) {
+                trail.push(term.lit, Some(at))?;
+            }
+        }
+    }
+    Ok(false)
+}
+
+/// Whether the row at a place is the reason of an entry.
+fn is_reason(trail: &Trail, at: usize) -> bool {
+    for place in 0..trail.len() {
+        if let Some(entry) = trail.entry(place) {
+            if entry.reason == Some(at) {
+                return true;
+            }
+        }
+    }
+    false
+}
+
+/// Takes the terms of a row away.
+fn empty(held: &mut [Held], at: usize) {
+    if let Some(row) = held.get_mut(at) {
+        row.terms.clear();
+    }
+}

@@ -1,0 +1,176 @@
+//! The literals that are true at a point of the search, in the order in which they became so.
+use rows::{Lit, Value};
+use std::alloc::{AllocError, Global};
+
+/// How a literal stands on a trail. What has a value has the level and the place at which it got it.
+#[derive(Clone, Copy, Debug)]
+pub(crate) enum Standing {
+    Free,
+    True { level: usize },
+    False { level: usize, place: usize },
+}
+
+/// A literal that was made true at a level. The row that forced it stands at this place of the stock; a decision has
+/// none.
+#[derive(Clone, Copy, Debug)]
+pub(crate) struct Entry {
+    pub(crate) lit: Lit,
+    pub(crate) level: usize,
+    pub(crate) reason: Option<usize>,
+}
+
+/// The entries, and what each variable got from them. A variable that it doesn't have reads as free.
+#[derive(Drop)]
+pub(crate) struct Trail {
+    /// The value of each variable, and the place of its entry, from variable 1 on.
+    values: Vec<Value>,
+    places: Vec<usize>,
+    entries: Vec<Entry>,
+    /// The places of the decisions.
+    decisions: Vec<usize>,
+    /// So many entries count in the rows.
+    pub(crate) counted: usize,
+}
+
+impl Trail {
+    /// No entry, for so many variables.
+    ///
+    /// # Errors
+    /// Only where memory runs out.
+    pub(crate) fn new(alloc: Global, vars: u32) -> Result<Trail, AllocError> {
+        Ok(Trail {
+            values: vec![in alloc; Value::Free; vars as usize + 1]?,
+            places: vec![in alloc; 0; vars as usize + 1]?,
+            entries: Vec::new(alloc),
+            decisions: Vec::new(alloc),
+            counted: 0,
+        })
+    }
+
+    /// The number of entries.
+    pub(crate) fn len(&self) -> usize {
+        self.entries.len()
+    }
+
+    /// The number of decisions.
+    pub(crate) fn level(&self) -> usize {
+        self.decisions.len()
+    }
+
+    /// The entry at a place, if there is one.
+    pub(crate) fn entry(&self, place: usize) -> Option<Entry> {
+        self.entries.get(place).copied()
+    }
+
+    /// The first entry that doesn't count yet, if there is one. It counts from here on.
+    pub(crate) fn count_next(&mut self) -> Option<Entry> {
+        let next = self.entries.get(self.counted).copied();
+        if next.is_some() {
+            self.counted = self.counted.saturating_add(1);
+        }
+        next
+    }
+
+    /// The value of a literal.
+    pub(crate) fn value(&self, lit: Lit) -> Value {
+        let value = self
+            .values
+            .get(lit.var() as usize)
+            .copied()
+            .unwrap_or(Value::Free);
+        if lit.positive() { value } else { opposite(value) }
+    }
+
+    /// How a literal stands.
+    pub(crate) fn standing(&self, lit: Lit) -> Standing {
+        let value = self.value(lit);
+        if let Value::Free = value {
+            return Standing::Free;
+        }
+        let place = self
+            .places
+            .get(lit.var() as usize)
+            .copied()
+            .unwrap_or(0);
+        let Some(entry) = self.entry(place) else {
+            return Standing::Free;
+        };
+        let level = entry.level;
+        match value {
+            Value::True => Standing::True { level },
+            Value::False | Value::Free => Standing::False { level, place },
+        }
+    }
+
+    /// Whether a literal was false before a place.
+    pub(crate) fn is_false_before(&self, lit: Lit, limit: usize) -> bool {
+        match self.standing(lit) {
+            Standing::False { place, .. } => place < limit,
+            Standing::Free | Standing::True { .. } => false,
+        }
+    }
+
+    /// Whether a literal is true or false at the end of a level.
+    pub(crate) fn side(&self, lit: Lit, end: usize) -> Option<bool> {
+        match self.standing(lit) {
+            Standing::True { level } if level <= end => Some(true),
+            Standing::False { level, .. } if level <= end => Some(false),
+            _ => None,
+        }
+    }
+
+    /// Makes a literal true, by the row at a place of the stock or by a decision.
+    ///
+    /// # Errors
+    /// Only where memory runs out.
+    pub(crate) fn push(&mut self, lit: Lit, reason: Option<usize>) -> Result<(), AllocError> {
+        let at = lit.var() as usize;
+        let place = self.entries.len();
+        let level = self.decisions.len();
+        if at < self.values.len() && at < self.places.len() {
+            self.values[at] = if lit.positive() {
+                Value::True
+            } else {
+                Value::False
+            };
+            self.places[at] = place;
+        }
+        self.entries.push(Entry { lit, level, reason })?;
+        Ok(())
+    }
+
+    /// Decides that a literal is true.
+    ///
+    /// # Errors
+    /// Only where memory runs out.
+    pub(crate) fn decide(&mut self, lit: Lit) -> Result<(), AllocError> {
+        self.decisions.push(self.entries.len())?;
+        self.push(lit, None)
+    }
+
+    /// Takes the last entry off, if it is above a level. It says whether the entry counted.
+    pub(crate) fn pop_above(&mut self, level: usize) -> Option<(Lit, bool)> {
+        let end = self.decisions.get(level).copied()?;
+        if self.entries.len() <= end {
+            self.decisions.truncate(level);
+            return None;
+        }
+        let entry = self.entries.pop()?;
+        if let Some(value) = self.values.get_mut(entry.lit.var() as usize) {
+            *value = Value::Free;
+        }
+        let place = self.entries.len();
+        let did_count = place < self.counted;
+        self.counted = self.counted.min(place);
+        Some((entry.lit, did_count))
+    }
+}
+
+/// The value of the negation.
+fn opposite(value: Value) -> Value {
+    match value {
+        Value::True => Value::False,
+        Value::False => Value::True,
+        Value::Free => Value::Free,
+    }
+}
