@@ -76,7 +76,8 @@ impl Axioms {
         }
         let hint = (groups.others as u64).saturating_add(2);
         let clause = draft.plan_clause(&[one.negate(), other.negate(), lit], &[hint])?;
-        both(draft, &mut self.sum, clause, self.base)
+        let base = self.base;
+        both(draft, &mut self.sum, clause, base)
     }
 
     /// Plans the row of some literals that aren't in the first group: from its clause with them behind it, and at most

@@ -45,18 +45,13 @@ impl Desk {
         vars: u32,
         start: Start,
     ) -> Result<Desk, AllocError> {
-        let Start {
-            steps,
-            rows: more,
-            numbers,
-        } = start;
+        let Start { steps, derived } = start;
         let mut stock = Stock::new(alloc, vars)?;
-        stock.add_all(rows, None)?;
-        stock.add_all(more, Some(numbers))?;
-        let draft = Draft {
-            steps,
-            rows: rows.len() as u64,
-        };
+        stock.add_all(rows)?;
+        for row in &derived {
+            stock.add_derived(row)?;
+        }
+        let draft = Draft::new(steps, rows.len() as u64);
         Ok(Desk {
             stock,
             trail: Trail::new(alloc, vars)?,

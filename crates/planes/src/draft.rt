@@ -4,16 +4,27 @@ ghost use Rattle.std.specs.Prelude.{◌≤◌};
 use crate::parts::Parts;
 use refutation::Log;
 use rows::Lit;
-use std::alloc::AllocError;
+use std::alloc::{AllocError, Global};
+use std::mem;
 
 /// Steps that are to come behind so many rows. Nothing is known of them: they are judged at the end.
 #[derive(Drop)]
 pub(crate) struct Draft {
-    pub(crate) steps: Log,
-    pub(crate) rows: u64,
+    steps: Log,
+    rows: u64,
 }
 
 impl Draft {
+    /// These steps behind so many rows.
+    pub(crate) fn new(steps: Log, rows: u64) -> Draft {
+        Draft { steps, rows }
+    }
+
+    /// The steps, which are taken out.
+    pub(crate) fn take(&mut self, alloc: Global) -> Log {
+        mem::replace(&mut self.steps, Log::new(alloc))
+    }
+
     /// The number of the next step.
     fn next(&self) -> u64 {
         let steps = self.steps.len() as u64;

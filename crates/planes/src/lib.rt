@@ -5,6 +5,7 @@
 //! owes no more than to be safe and to end, and most of what it keeps reads as absent where it isn't there.
 #![tactic(auto)]
 
+mod answer;
 mod axioms;
 mod cut;
 mod desk;
@@ -16,7 +17,6 @@ mod order;
 mod parts;
 mod plane;
 mod reason;
-mod refute;
 mod restarts;
 mod round;
 mod search;
@@ -25,5 +25,5 @@ mod stock;
 mod trail;
 mod units;
 
-pub use refute::refute;
-pub use start::Start;
+pub use answer::refute;
+pub use start::{Derived, Start};

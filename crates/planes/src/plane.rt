@@ -267,7 +267,8 @@ impl Plane {
                 self.write(lit, 1);
             }
         }
-        let number = draft.plan_clause(lits, &[self.number()])?;
+        let hint = self.number();
+        let number = draft.plan_clause(lits, &[hint])?;
         self.level = None;
         self.parts.begin(number)
     }

@@ -1,12 +1,19 @@
 //! With what a search begins.
 use refutation::Log;
-use rows::RowStore;
+use rows::Lit;
 
-/// With what a search begins: steps that come first in its log, and rows of some of them, from which it reasons too. The
-/// row at place k of the store is that of the step, or the row, with the kth of these numbers. No clause asks that it is:
-/// where it isn't, the search comes to no log.
-pub struct Start<'a> {
+/// The row of a step: at least so many of these literals are true. The step has this number behind the rows.
+#[derive(Drop)]
+pub struct Derived {
+    pub lits: Vec<Lit>,
+    pub degree: u64,
+    pub number: u64,
+}
+
+/// Steps that come first in the log of a search, and rows of some of them, from which it reasons too. No clause asks that
+/// these are the steps' rows: where they aren't, the search comes to no log.
+#[derive(Drop)]
+pub struct Start {
     pub steps: Log,
-    pub rows: &'a RowStore,
-    pub numbers: &'a [u64],
+    pub derived: Vec<Derived>,
 }

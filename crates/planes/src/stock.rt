@@ -1,5 +1,6 @@
 //! The rows of a search, with what each can still reach.
 use crate::numbers::as_signed;
+use crate::start::Derived;
 use crate::trail::Trail;
 use rows::{Lit, RowStore, Term, Value};
 use std::alloc::{AllocError, Global};
@@ -22,7 +23,7 @@ struct Count {
 
 /// Where a literal stands: the place of the row, and the coefficient.
 #[derive(Clone, Copy, Debug)]
-struct Use {
+struct Spot {
     row: u32,
     coef: u32,
 }
@@ -34,7 +35,7 @@ pub(crate) struct Stock {
     held: Vec<Held>,
     counts: Vec<Count>,
     /// Where each literal stands: first variable 1, then its negation, and so on.
-    uses: Vec<Vec<Use>>,
+    spots: Vec<Vec<Spot>>,
     /// The places of the rows that lately fell to where they force or are in conflict.
     active: Vec<u32>,
     /// How many rows are learnt and kept.
@@ -47,16 +48,16 @@ impl Stock {
     /// # Errors
     /// Only where memory runs out.
     pub(crate) fn new(alloc: Global, vars: u32) -> Result<Stock, AllocError> {
-        let mut uses = Vec::new(alloc);
+        let mut spots = Vec::new(alloc);
         for _variable in 0..vars {
-            uses.push(Vec::new(alloc))?;
-            uses.push(Vec::new(alloc))?;
+            spots.push(Vec::new(alloc))?;
+            spots.push(Vec::new(alloc))?;
         }
         Ok(Stock {
             alloc,
             held: Vec::new(alloc),
             counts: Vec::new(alloc),
-            uses,
+            spots,
             active: Vec::new(alloc),
             learnt: 0,
         })
@@ -72,35 +73,45 @@ impl Stock {
         self.held.get(at)
     }
 
-    /// Adds all rows of a store. The row at its place k has the kth of these numbers, or without them the number k + 1.
+    /// Adds all rows of a store, which have the numbers from 1 on.
     ///
     /// # Errors
     /// Only where memory runs out.
-    pub(crate) fn add_all(&mut self, rows: &RowStore, numbers: Option<&[u64]>) -> Result<(), AllocError> {
+    pub(crate) fn add_all(&mut self, rows: &RowStore) -> Result<(), AllocError> {
         for place in 0..rows.len() {
-            let number = match numbers {
-                None => place as u64 + 1,
-                Some(list) => list.get(place).copied().unwrap_or(0),
-            };
-            let slack = self.reach(rows.terms(place)).saturating_sub(as_signed(rows.degree(place)));
-            let held = Held {
-                terms: copied(self.alloc, rows.terms(place))?,
-                degree: as_signed(rows.degree(place)),
-                number,
-                levels: 0,
-            };
-            let _at = self.add(held, slack)?;
+            let mut terms = Vec::new(self.alloc);
+            terms.extend_from_slice(rows.terms(place))?;
+            self.add_given(terms, as_signed(rows.degree(place)), place as u64 + 1)?;
         }
         Ok(())
     }
 
-    /// What terms sum to.
-    fn reach(&self, terms: &[Term]) -> i64 {
-        let mut sum: i64 = 0;
-        for term in terms {
-            sum = sum.saturating_add(i64::from(term.coef));
+    /// Adds the row of a step.
+    ///
+    /// # Errors
+    /// Only where memory runs out.
+    pub(crate) fn add_derived(&mut self, row: &Derived) -> Result<(), AllocError> {
+        let mut terms = Vec::new(self.alloc);
+        for lit in &row.lits {
+            terms.push(Term { coef: 1, lit: *lit })?;
         }
-        sum
+        self.add_given(terms, as_signed(row.degree), row.number)
+    }
+
+    /// Adds a row from which the search begins, before anything counts.
+    fn add_given(&mut self, terms: Vec<Term>, degree: i64, number: u64) -> Result<(), AllocError> {
+        let mut slack = degree.saturating_neg();
+        for term in &terms {
+            slack = slack.saturating_add(i64::from(term.coef));
+        }
+        let held = Held {
+            terms,
+            degree,
+            number,
+            levels: 0,
+        };
+        let _at = self.add(held, slack)?;
+        Ok(())
     }
 
     /// Adds a row whose slack is this. The answer is its place.
@@ -109,7 +120,7 @@ impl Stock {
     /// Only where memory runs out.
     pub(crate) fn add(&mut self, held: Held, slack: i64) -> Result<usize, AllocError> {
         let at = self.held.len();
-        let most = list_uses(&mut self.uses, at, &held.terms)?;
+        let most = list_spots(&mut self.spots, at, &held.terms)?;
         if held.levels > 0 {
             self.learnt = self.learnt.saturating_add(1);
         }
@@ -124,7 +135,7 @@ impl Stock {
     /// Only where memory runs out.
     pub(crate) fn count(&mut self, trail: &mut Trail, lit: Lit) -> Result<Option<usize>, AllocError> {
         self.active.clear();
-        if let Some(list) = self.uses.get(slot(lit.negate())) {
+        if let Some(list) = self.spots.get(slot(lit.negate())) {
             count_off(list, &mut self.counts, &mut self.active)?;
         }
         for place in &self.active {
@@ -146,7 +157,7 @@ impl Stock {
 
     /// The entry of a literal counts no longer.
     pub(crate) fn count_back(&mut self, lit: Lit) {
-        if let Some(list) = self.uses.get(slot(lit.negate())) {
+        if let Some(list) = self.spots.get(slot(lit.negate())) {
             count_on(list, &mut self.counts);
         }
     }
@@ -176,11 +187,11 @@ impl Stock {
 
     /// Lists anew where each literal stands.
     fn list_anew(&mut self) -> Result<(), AllocError> {
-        for list in &mut self.uses {
+        for list in &mut self.spots {
             list.clear();
         }
         for (at, held) in self.held.iter().enumerate() {
-            let _most = list_uses(&mut self.uses, at, &held.terms)?;
+            let _most = list_spots(&mut self.spots, at, &held.terms)?;
         }
         Ok(())
     }
@@ -192,20 +203,13 @@ fn slot(lit: Lit) -> usize {
     first + usize::from(!lit.positive())
 }
 
-/// A copy of terms.
-fn copied(alloc: Global, terms: &[Term]) -> Result<Vec<Term>, AllocError> {
-    let mut list = Vec::new(alloc);
-    list.extend_from_slice(terms)?;
-    Ok(list)
-}
-
 /// Lists the literals of the row at a place. The answer is its greatest coefficient.
-fn list_uses(uses: &mut Vec<Vec<Use>>, at: usize, terms: &[Term]) -> Result<i64, AllocError> {
+fn list_spots(spots: &mut Vec<Vec<Spot>>, at: usize, terms: &[Term]) -> Result<i64, AllocError> {
     let row = u32::try_from(at).unwrap_or(u32::MAX);
     let mut most = 0;
     for term in terms {
-        if let Some(list) = uses.get_mut(slot(term.lit)) {
-            list.push(Use {
+        if let Some(list) = spots.get_mut(slot(term.lit)) {
+            list.push(Spot {
                 row,
                 coef: term.coef,
             })?;
@@ -216,8 +220,8 @@ fn list_uses(uses: &mut Vec<Vec<Use>>, at: usize, terms: &[Term]) -> Result<i64,
 }
 
 /// A literal became false that stands there.
-fn count_off(uses: &[Use], counts: &mut [Count], active: &mut Vec<u32>) -> Result<(), AllocError> {
-    for place in uses {
+fn count_off(spots: &[Spot], counts: &mut [Count], active: &mut Vec<u32>) -> Result<(), AllocError> {
+    for place in spots {
         if let Some(count) = counts.get_mut(place.row as usize) {
             count.slack = count.slack.saturating_sub(i64::from(place.coef));
             if count.slack < count.most {
@@ -229,8 +233,8 @@ fn count_off(uses: &[Use], counts: &mut [Count], active: &mut Vec<u32>) -> Resul
 }
 
 /// A literal is false no longer that stands there.
-fn count_on(uses: &[Use], counts: &mut [Count]) {
-    for place in uses {
+fn count_on(spots: &[Spot], counts: &mut [Count]) {
+    for place in spots {
         if let Some(count) = counts.get_mut(place.row as usize) {
             count.slack = count.slack.saturating_add(i64::from(place.coef));
         }
@@ -239,7 +243,10 @@ fn count_on(uses: &[Use], counts: &mut [Count]) {
 
 /// Makes what the row at a place forces true, and says whether it is in conflict.
 fn force(held: &[Held], counts: &[Count], at: usize, trail: &mut Trail) -> Result<bool, AllocError> {
-    let (Some(row), Some(count)) = (held.get(at), counts.get(at)) else {
+    let Some(row) = held.get(at) else {
+        return Ok(false);
+    };
+    let Some(count) = counts.get(at) else {
         return Ok(false);
     };
     if count.slack < 0 {

@@ -127,12 +127,13 @@ impl Trail {
         let at = lit.var() as usize;
         let place = self.entries.len();
         let level = self.decisions.len();
+        let value = if lit.positive() {
+            Value::True
+        } else {
+            Value::False
+        };
         if at < self.values.len() && at < self.places.len() {
-            self.values[at] = if lit.positive() {
-                Value::True
-            } else {
-                Value::False
-            };
+            self.values[at] = value;
             self.places[at] = place;
         }
         self.entries.push(Entry { lit, level, reason })?;
@@ -144,7 +145,8 @@ impl Trail {
     /// # Errors
     /// Only where memory runs out.
     pub(crate) fn decide(&mut self, lit: Lit) -> Result<(), AllocError> {
-        self.decisions.push(self.entries.len())?;
+        let place = self.entries.len();
+        self.decisions.push(place)?;
         self.push(lit, None)
     }
 

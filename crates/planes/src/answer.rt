@@ -1,6 +1,5 @@
 //! A log that refutes rows.
-ghost use Rattle.std.specs.Prelude.{◌≡◌, ◌≤◌, IfOk, IfSome};
-ghost use Rattle.std.specs.List.{All};
+ghost use Rattle.std.specs.Prelude.{IfOk, IfSome};
 ghost use Rattle.refutation_check.specs.Within.{AreWithin};
 ghost use Rattle.planes.specs.Refuted.{IsRefutation};
 
@@ -12,7 +11,6 @@ use refutation_check::check;
 use robin_watch::Watch;
 use rows::RowStore;
 use std::alloc::{AllocError, Global};
-use std::mem;
 
 /// Searches for a log that refutes rows over so many variables, and learns at most so many rows by cutting planes. None
 /// where values satisfy them, where the limit or the watch ends the search, or where the search comes to nothing else:
@@ -36,7 +34,7 @@ pub fn refute<W: Watch>(
     if !is_found {
         return Ok(None);
     }
-    let log = mem::replace(&mut desk.tools.draft.steps, Log::new(alloc));
+    let log = desk.tools.draft.take(alloc);
     checked(alloc, rows, vars, log)
 }
 

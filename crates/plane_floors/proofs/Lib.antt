@@ -1,0 +1,2 @@
+-- What a log that a search finds shows of a floor.
+pub mod PlaneLemmas

@@ -1,0 +1,8 @@
+//! Floors of leagues that are searched by cutting planes: that no schedule costs less than a number, with a log that
+//! proves it. The law of the fewest breaks gives the rows with which the search begins.
+#![tactic(auto)]
+
+mod floor;
+mod start;
+
+pub use floor::plane_floor;

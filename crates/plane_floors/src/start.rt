@@ -1,0 +1,83 @@
+//! With what the search begins: in each half of the season all teams but two have a break at least.
+ghost use Rattle.std.specs.Prelude.{◌≡◌, ◌+◌, ◌<◌, ◌≤◌, IfOk};
+ghost use Rattle.std.specs.List.{All};
+
+use bound_rows::needs_breaks;
+use break_counts::{Frame, Stretch, Writer, add_clique};
+use encoding_base::{ab_at, hb_at};
+use league::League;
+use planes::{Derived, Start};
+use refutation::Part;
+use rows::Lit;
+use std::alloc::{AllocError, Global};
+
+/// The steps of the law of the fewest breaks behind so many rows, and its rows, where breaks have variables.
+///
+/// # Errors
+/// Only where memory runs out.
+pub(crate) fn start_of(alloc: Global, league: &League, rows: u64) -> Result<Start, AllocError> {
+    let mut writer = Writer::new(alloc, rows);
+    let mut derived = Vec::new(alloc);
+    if needs_breaks(league.constraints()) {
+        let frame = Frame::new(league);
+        let half = frame.n - 1;
+        if league.phased() {
+            for first in [0, half] {
+                let count = half;
+                let row = law_of(alloc, &mut writer, frame, Stretch { first, count })?;
+                derived.push(row)?;
+            }
+        } else {
+            let season = Stretch {
+                first: 0,
+                count: frame.slots,
+            };
+            let row = law_of(alloc, &mut writer, frame, season)?;
+            derived.push(row)?;
+        }
+    }
+    Ok(Start {
+        steps: writer.finish(),
+        derived,
+    })
+}
+
+/// Writes that in a stretch in which each two teams meet all teams but two have a break at least.
+fn law_of(
+    alloc: Global,
+    writer: &mut Writer,
+    frame: Frame,
+    stretch: Stretch,
+) -> Result<Derived, AllocError>
+    requires some { 1 ≤ stretch.count }
+    requires within { stretch.first + stretch.count ≤ frame.slots }
+{
+    let teams = all_teams(alloc, frame.n)?;
+    let home = add_clique(alloc, writer, frame, stretch, true, &teams)?;
+    let away = add_clique(alloc, writer, frame, stretch, false, &teams)?;
+    let parts = [home, away].map(|row| Part { factor: 1, row });
+    let number = writer.sum(&parts, 1)?;
+    let mut lits = Vec::new(alloc);
+    for team in 0..frame.n {
+        for slot in stretch.first + 1..stretch.first + stretch.count {
+            lits.push(Lit::new(hb_at(frame.n, team, slot), true))?;
+            lits.push(Lit::new(ab_at(frame.n, team, slot), true))?;
+        }
+    }
+    Ok(Derived {
+        lits,
+        degree: u64::from(frame.n).saturating_sub(2),
+        number,
+    })
+}
+
+/// The teams of a league of n teams, by their numbers.
+fn all_teams(alloc: Global, n: u16) -> Result<Vec<u16>, AllocError>
+    ensures { IfOk result (λ teams. All (λ i. i < n) teams.items) }
+{
+    let mut teams = Vec::with_capacity(alloc, n as usize)?;
+    for team in 0..n {
+        teams.push(team)?;
+    }
+    Ok(teams)
+}
