@@ -204,7 +204,7 @@ fn slot(lit: Lit) -> usize {
 }
 
 /// Lists the literals of the row at a place. The answer is its greatest coefficient.
-fn list_spots(spots: &mut Vec<Vec<Spot>>, at: usize, terms: &[Term]) -> Result<i64, AllocError> {
+fn list_spots(spots: &mut [Vec<Spot>], at: usize, terms: &[Term]) -> Result<i64, AllocError> {
     let row = u32::try_from(at).unwrap_or(u32::MAX);
     let mut most = 0;
     for term in terms {
