@@ -30,11 +30,10 @@ pub fn refute<W: Watch>(
     ensures { IfOk result (λ found. IfSome found (IsRefutation rows.now vars)) }
 {
     let mut desk = Desk::new(alloc, rows, vars, start)?;
-    let is_found = search(alloc, &mut desk, vars, limit, watch)?;
-    if !is_found {
+    if !search(alloc, &mut desk, vars, limit, watch)? {
         return Ok(None);
     }
-    let log = desk.tools.draft.take(alloc);
+    let log = desk.tools.take_steps(alloc);
     checked(alloc, rows, vars, log)
 }
 

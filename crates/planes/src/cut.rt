@@ -1,9 +1,11 @@
 //! The analysis of a conflict: down the trail, until the row that comes of it isn't quiet at the end of a lower level. It is
 //! that of RoundingSat: each reason is divided by what it counts of the literal that it forces.
-use crate::desk::Desk;
+use crate::desk::Tools;
 use crate::numbers::{divided, rest};
-use crate::reason::Point;
-use crate::trail::{Entry, Standing};
+use crate::order::Order;
+use crate::reason::{Point, Scaled};
+use crate::stock::Stock;
+use crate::trail::{Entry, Standing, Trail};
 use rows::Lit;
 use std::alloc::AllocError;
 
@@ -25,27 +27,33 @@ pub(crate) enum Outcome {
 ///
 /// # Errors
 /// Only where memory runs out.
-pub(crate) fn cut(desk: &mut Desk, row: usize) -> Result<Outcome, AllocError> {
-    begin(desk, row)?;
-    let mut level = desk.trail.level();
+pub(crate) fn cut(
+    stock: &Stock,
+    trail: &Trail,
+    order: &mut Order,
+    tools: &mut Tools,
+    row: usize,
+) -> Result<Outcome, AllocError> {
+    begin(stock, trail, order, tools, row)?;
+    let len = trail.len();
+    let mut level = trail.level();
     let mut is_fresh = true;
-    let len = desk.trail.len();
     for back in 0..len {
         if is_fresh {
-            level = lowest_conflict(desk, level);
+            level = lowest_conflict(trail, tools, level);
             if level == 0 {
                 return Ok(Outcome::Refuted);
             }
-            if desk.tools.plane.is_active(&desk.trail, level - 1) {
+            if tools.plane.is_active(trail, level - 1) {
                 return Ok(Outcome::Active);
             }
         }
         let place = len - 1 - back;
-        let Some(entry) = desk.trail.entry(place) else {
+        let Some(entry) = trail.entry(place) else {
             return Ok(Outcome::Nothing);
         };
-        is_fresh = entry.level <= level && desk.tools.plane.coef(entry.lit.negate()) > 0;
-        if is_fresh && !resolve(desk, entry, place)? {
+        is_fresh = entry.level <= level && tools.plane.coef(entry.lit.negate()) > 0;
+        if is_fresh && !resolve(stock, trail, order, tools, entry, place)? {
             return Ok(Outcome::Nothing);
         }
     }
@@ -53,24 +61,30 @@ pub(crate) fn cut(desk: &mut Desk, row: usize) -> Result<Outcome, AllocError> {
 }
 
 /// Begins with the row at a place.
-fn begin(desk: &mut Desk, row: usize) -> Result<(), AllocError> {
-    let Some(held) = desk.stock.row(row) else {
+fn begin(
+    stock: &Stock,
+    trail: &Trail,
+    order: &mut Order,
+    tools: &mut Tools,
+    row: usize,
+) -> Result<(), AllocError> {
+    let Some(held) = stock.row(row) else {
         return Ok(());
     };
-    desk.tools
+    tools
         .plane
-        .begin(&desk.trail, &held.terms, held.degree, held.number)?;
+        .begin(trail, &held.terms, held.degree, held.number)?;
     for term in &held.terms {
-        desk.order.raise(term.lit);
+        order.raise(term.lit);
     }
     Ok(())
 }
 
 /// The lowest level up to the given one at whose end the row is in conflict; 0 where it is so at the end of level 0.
-fn lowest_conflict(desk: &mut Desk, level: usize) -> usize {
+fn lowest_conflict(trail: &Trail, tools: &mut Tools, level: usize) -> usize {
     for back in 0..level {
         let below = level - back - 1;
-        if !desk.tools.plane.is_in_conflict(&desk.trail, below) {
+        if !tools.plane.is_in_conflict(trail, below) {
             return below + 1;
         }
     }
@@ -78,15 +92,20 @@ fn lowest_conflict(desk: &mut Desk, level: usize) -> usize {
 }
 
 /// Adds the reason of an entry so often that what the row counts of its negation cancels. It says whether it could.
-fn resolve(desk: &mut Desk, entry: Entry, place: usize) -> Result<bool, AllocError> {
+fn resolve(
+    stock: &Stock,
+    trail: &Trail,
+    order: &mut Order,
+    tools: &mut Tools,
+    entry: Entry,
+    place: usize,
+) -> Result<bool, AllocError> {
     let Some(row) = entry.reason else {
         return Ok(false);
     };
-    let Some(held) = desk.stock.row(row) else {
+    let Some(held) = stock.row(row) else {
         return Ok(false);
     };
-    let trail = &desk.trail;
-    let tools = &mut desk.tools;
     let point = Point {
         lit: entry.lit,
         place,
@@ -100,22 +119,22 @@ fn resolve(desk: &mut Desk, entry: Entry, place: usize) -> Result<bool, AllocErr
     }
     let times = tools.plane.coef(entry.lit.negate());
     tools.plane.add_reason(trail, times, &tools.reason)?;
-    raise_false(desk, place);
-    if desk.tools.plane.is_too_large() {
-        return shrink(desk, place);
+    raise_false(trail, order, &tools.reason.terms, place);
+    if tools.plane.is_too_large() {
+        return shrink(trail, tools, place);
     }
     Ok(true)
 }
 
-/// Makes the variables more active whose literals in the reason were false before a place, above level 0.
-fn raise_false(desk: &mut Desk, limit: usize) {
-    for term in &desk.tools.reason.terms {
+/// Makes the variables more active whose literals in a reason were false before a place, above level 0.
+fn raise_false(trail: &Trail, order: &mut Order, terms: &[Scaled], limit: usize) {
+    for term in terms {
         if term.coef == 0 {
             continue;
         }
-        if let Standing::False { level, place } = desk.trail.standing(term.lit) {
+        if let Standing::False { level, place } = trail.standing(term.lit) {
             if level > 0 && place < limit {
-                desk.order.raise(term.lit);
+                order.raise(term.lit);
             }
         }
     }
@@ -123,18 +142,17 @@ fn raise_false(desk: &mut Desk, limit: usize) {
 
 /// Divides the row so that its coefficients are small again, and says whether it could. Before that all that wasn't false
 /// before a place is weakened to multiples.
-fn shrink(desk: &mut Desk, place: usize) -> Result<bool, AllocError> {
-    let divisor = divided(desk.tools.plane.greatest_coef(), LARGE);
-    for k in 0..desk.tools.plane.len() {
-        let Some((lit, coef)) = desk.tools.plane.term(k) else {
+fn shrink(trail: &Trail, tools: &mut Tools, place: usize) -> Result<bool, AllocError> {
+    let divisor = divided(tools.plane.greatest_coef(), LARGE);
+    for k in 0..tools.plane.len() {
+        let Some((lit, coef)) = tools.plane.term(k) else {
             continue;
         };
         let less = rest(coef, divisor);
-        if less > 0 && !desk.trail.is_false_before(lit, place) && !weaken(desk, lit, less)? {
+        if less > 0 && !trail.is_false_before(lit, place) && !weaken(tools, lit, less)? {
             return Ok(false);
         }
     }
-    let tools = &mut desk.tools;
     tools.plane.divide(&mut tools.draft, divisor)?;
     Ok(true)
 }
@@ -143,8 +161,7 @@ fn shrink(desk: &mut Desk, place: usize) -> Result<bool, AllocError> {
 ///
 /// # Errors
 /// Only where memory runs out.
-pub(crate) fn weaken(desk: &mut Desk, lit: Lit, less: i64) -> Result<bool, AllocError> {
-    let tools = &mut desk.tools;
+pub(crate) fn weaken(tools: &mut Tools, lit: Lit, less: i64) -> Result<bool, AllocError> {
     let Some(axiom) = tools.axioms.number(&mut tools.draft, lit.negate())? else {
         return Ok(false);
     };

@@ -9,6 +9,7 @@ use crate::start::Start;
 use crate::stock::Stock;
 use crate::trail::Trail;
 use crate::units::Units;
+use refutation::Log;
 use rows::{Lit, RowStore};
 use std::alloc::{AllocError, Global};
 
@@ -34,6 +35,34 @@ pub(crate) struct Tools {
     pub(crate) levels: Vec<usize>,
 }
 
+impl Tools {
+    /// No row yet, for a search over these rows and so many variables, whose log begins with these steps.
+    ///
+    /// # Errors
+    /// Only where memory runs out.
+    fn new(alloc: Global, rows: &RowStore, vars: u32, steps: Log) -> Result<Tools, AllocError> {
+        Ok(Tools {
+            plane: Plane::new(alloc, vars)?,
+            reason: Reason::new(alloc),
+            axioms: Axioms::new(alloc, rows, vars)?,
+            units: Units::new(alloc, vars)?,
+            draft: Draft::new(steps, rows.len() as u64),
+            lits: Vec::new(alloc),
+            levels: Vec::new(alloc),
+        })
+    }
+
+    /// The planned steps, which are taken out.
+    pub(crate) fn take_steps(&mut self, alloc: Global) -> Log {
+        self.draft.take(alloc)
+    }
+
+    /// Plans the steps of what is true at level 0.
+    fn plan_units(&mut self, trail: &Trail, stock: &Stock) -> Result<(), AllocError> {
+        self.units.plan(trail, stock, &mut self.draft)
+    }
+}
+
 impl Desk {
     /// The desk of a search over these rows and so many variables, which begins so.
     ///
@@ -51,21 +80,12 @@ impl Desk {
         for row in &derived {
             stock.add_derived(row)?;
         }
-        let draft = Draft::new(steps, rows.len() as u64);
         Ok(Desk {
             stock,
             trail: Trail::new(alloc, vars)?,
             order: Order::new(alloc, vars)?,
             restarts: Restarts::new(),
-            tools: Tools {
-                plane: Plane::new(alloc, vars)?,
-                reason: Reason::new(alloc),
-                axioms: Axioms::new(alloc, rows, vars)?,
-                units: Units::new(alloc, vars)?,
-                draft,
-                lits: Vec::new(alloc),
-                levels: Vec::new(alloc),
-            },
+            tools: Tools::new(alloc, rows, vars, steps)?,
         })
     }
 
@@ -74,7 +94,7 @@ impl Desk {
     /// # Errors
     /// Only where memory runs out.
     pub(crate) fn back_to(&mut self, level: usize) -> Result<(), AllocError> {
-        for _entry in 0..=self.trail.len() {
+        for _entry in 0..self.trail.len().saturating_add(1) {
             let Some((lit, did_count)) = self.trail.pop_above(level) else {
                 return Ok(());
             };
@@ -91,10 +111,7 @@ impl Desk {
     /// # Errors
     /// Only where memory runs out.
     pub(crate) fn plan_units(&mut self) -> Result<(), AllocError> {
-        let tools = &mut self.tools;
-        tools
-            .units
-            .plan(&self.trail, &self.stock, &mut tools.draft)
+        self.tools.plan_units(&self.trail, &self.stock)
     }
 
     /// Makes all true that rows force. The answer is the place of the first row in conflict, if there is one.
@@ -102,7 +119,7 @@ impl Desk {
     /// # Errors
     /// Only where memory runs out.
     pub(crate) fn settle(&mut self, vars: u32) -> Result<Option<usize>, AllocError> {
-        for _entry in 0..=vars {
+        for _entry in 0..vars {
             let Some(entry) = self.trail.count_next() else {
                 return Ok(None);
             };

@@ -1,8 +1,8 @@
 //! What is learnt from a conflict.
-use crate::desk::Desk;
+use crate::desk::{Desk, Tools};
 use crate::round::round;
 use crate::search::Met;
-use crate::stock::Held;
+use crate::stock::{Held, Stock};
 use crate::trail::{Standing, Trail};
 use rows::Term;
 use std::alloc::{AllocError, Global};
@@ -12,10 +12,10 @@ use std::alloc::{AllocError, Global};
 /// # Errors
 /// Only where memory runs out.
 pub(crate) fn learn(alloc: Global, desk: &mut Desk) -> Result<Met, AllocError> {
-    let Some(level) = round(desk)? else {
+    let Some(level) = round(&desk.trail, &mut desk.tools)? else {
         return Ok(Met::Nothing);
     };
-    let Some(held) = learnt_row(alloc, desk)? else {
+    let Some(held) = learnt_row(alloc, &desk.trail, &mut desk.tools)? else {
         return Ok(Met::Nothing);
     };
     let slack = desk.tools.plane.slack;
@@ -33,9 +33,7 @@ pub(crate) fn learn(alloc: Global, desk: &mut Desk) -> Result<Met, AllocError> {
 /// # Errors
 /// Only where memory runs out.
 pub(crate) fn end_by_plane(alloc: Global, desk: &mut Desk) -> Result<Met, AllocError> {
-    let tools = &mut desk.tools;
-    tools.plane.divide(&mut tools.draft, 1)?;
-    let Some(held) = learnt_row(alloc, desk)? else {
+    let Some(held) = last_row(alloc, &desk.trail, &mut desk.tools)? else {
         return Ok(Met::Nothing);
     };
     let slack = desk.tools.plane.slack;
@@ -49,18 +47,40 @@ pub(crate) fn end_by_plane(alloc: Global, desk: &mut Desk) -> Result<Met, AllocE
 /// # Errors
 /// Only where memory runs out.
 pub(crate) fn end(desk: &mut Desk, row: usize) -> Result<(), AllocError> {
-    let tools = &mut desk.tools;
-    tools
-        .units
-        .plan_end(&desk.trail, &desk.stock, &mut tools.draft, row)
+    plan_end(&desk.trail, &desk.stock, &mut desk.tools, row)
 }
 
-/// The row to which an analysis came, if its coefficients are of 32 bits.
-fn learnt_row(alloc: Global, desk: &mut Desk) -> Result<Option<Held>, AllocError> {
+/// Plans the empty clause.
+fn plan_end(
+    trail: &Trail,
+    stock: &Stock,
+    tools: &mut Tools,
+    row: usize,
+) -> Result<(), AllocError> {
+    tools
+        .units
+        .plan_end(trail, stock, &mut tools.draft, row)
+}
+
+/// The row to which an analysis came, once its step is planned, if its coefficients are of 32 bits.
+fn last_row(
+    alloc: Global,
+    trail: &Trail,
+    tools: &mut Tools,
+) -> Result<Option<Held>, AllocError> {
+    tools.plane.divide(&mut tools.draft, 1)?;
+    learnt_row(alloc, trail, tools)
+}
+
+/// The row to which an analysis came, whose step is planned, if its coefficients are of 32 bits.
+fn learnt_row(
+    alloc: Global,
+    trail: &Trail,
+    tools: &mut Tools,
+) -> Result<Option<Held>, AllocError> {
     let mut terms = Vec::new(alloc);
-    let plane = &desk.tools.plane;
-    for k in 0..plane.len() {
-        let Some((lit, count)) = plane.term(k) else {
+    for k in 0..tools.plane.len() {
+        let Some((lit, count)) = tools.plane.term(k) else {
             continue;
         };
         let Ok(coef) = u32::try_from(count) else {
@@ -68,13 +88,11 @@ fn learnt_row(alloc: Global, desk: &mut Desk) -> Result<Option<Held>, AllocError
         };
         terms.push(Term { coef, lit })?;
     }
-    let number = plane.number();
-    let degree = plane.degree;
-    let levels = count_levels(&desk.trail, &terms, &mut desk.tools.levels)?;
+    let levels = count_levels(trail, &terms, &mut tools.levels)?;
     Ok(Some(Held {
         terms,
-        degree,
-        number,
+        degree: tools.plane.degree,
+        number: tools.plane.number(),
         levels,
     }))
 }

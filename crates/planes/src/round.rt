@@ -1,9 +1,9 @@
 //! The row at the end of an analysis, made short: what is decided at level 0 goes, and it is divided by the greatest
 //! coefficient that it forces with, so that mostly a clause or a row that counts is left.
 use crate::cut::weaken;
-use crate::desk::Desk;
+use crate::desk::Tools;
 use crate::numbers::rest;
-use crate::trail::Standing;
+use crate::trail::{Standing, Trail};
 use std::alloc::AllocError;
 
 /// Makes the row short, and plans its step. The answer is the lowest level at whose end it isn't quiet, if there is one
@@ -11,18 +11,17 @@ use std::alloc::AllocError;
 ///
 /// # Errors
 /// Only where memory runs out.
-pub(crate) fn round(desk: &mut Desk) -> Result<Option<usize>, AllocError> {
-    if !drop_decided(desk)? {
+pub(crate) fn round(trail: &Trail, tools: &mut Tools) -> Result<Option<usize>, AllocError> {
+    if !drop_decided(trail, tools)? {
         return Ok(None);
     }
-    let Some(level) = first_active(desk) else {
+    let Some(level) = first_active(trail, tools) else {
         return Ok(None);
     };
-    let divisor = forcing_coef(desk);
-    if divisor > 1 && !weaken_all(desk, level, divisor)? {
+    let divisor = forcing_coef(tools);
+    if divisor > 1 && !weaken_all(trail, tools, level, divisor)? {
         return Ok(None);
     }
-    let tools = &mut desk.tools;
     let common = tools.plane.common_divisor(divisor);
     tools
         .plane
@@ -30,27 +29,27 @@ pub(crate) fn round(desk: &mut Desk) -> Result<Option<usize>, AllocError> {
     if tools.plane.degree == 1 && tools.plane.greatest_coef() > 1 {
         tools.plane.make_clause(&mut tools.draft, &mut tools.lits)?;
     }
-    Ok(first_active(desk))
+    Ok(first_active(trail, tools))
 }
 
 /// Takes the literals of level 0 out. It says whether it could.
-fn drop_decided(desk: &mut Desk) -> Result<bool, AllocError> {
-    for k in 0..desk.tools.plane.len() {
-        let Some((lit, coef)) = desk.tools.plane.term(k) else {
+fn drop_decided(trail: &Trail, tools: &mut Tools) -> Result<bool, AllocError> {
+    for k in 0..tools.plane.len() {
+        let Some((lit, coef)) = tools.plane.term(k) else {
             continue;
         };
-        match desk.trail.standing(lit) {
+        match trail.standing(lit) {
             Standing::True { level: 0 } => {
-                if !weaken(desk, lit, coef)? {
+                if !weaken(tools, lit, coef)? {
                     return Ok(false);
                 }
             }
             Standing::False { level: 0, .. } => {
-                let unit = desk.tools.units.number(lit);
+                let unit = tools.units.number(lit);
                 if unit == 0 {
                     return Ok(false);
                 }
-                desk.tools.plane.take_out(lit, unit)?;
+                tools.plane.take_out(lit, unit)?;
             }
             _ => {}
         }
@@ -59,9 +58,9 @@ fn drop_decided(desk: &mut Desk) -> Result<bool, AllocError> {
 }
 
 /// The lowest level at whose end the row isn't quiet, if there is one below the present level.
-fn first_active(desk: &mut Desk) -> Option<usize> {
-    for level in 0..desk.trail.level() {
-        if desk.tools.plane.is_active(&desk.trail, level) {
+fn first_active(trail: &Trail, tools: &mut Tools) -> Option<usize> {
+    for level in 0..trail.level() {
+        if tools.plane.is_active(trail, level) {
             return Some(level);
         }
     }
@@ -70,8 +69,8 @@ fn first_active(desk: &mut Desk) -> Option<usize> {
 
 /// The greatest coefficient of a literal that is free at the end of the level at which the row was looked at last, if it is
 /// above the slack there, or else 1.
-fn forcing_coef(desk: &Desk) -> i64 {
-    let plane = &desk.tools.plane;
+fn forcing_coef(tools: &Tools) -> i64 {
+    let plane = &tools.plane;
     if plane.most > plane.slack {
         plane.most.max(1)
     } else {
@@ -81,25 +80,25 @@ fn forcing_coef(desk: &Desk) -> i64 {
 
 /// Weakens the row so that it can be divided: each literal that isn't false at the end of a level to a multiple of the
 /// divisor, and false ones while the divided degree stays. It says whether it could.
-fn weaken_all(desk: &mut Desk, level: usize, divisor: i64) -> Result<bool, AllocError> {
-    for k in 0..desk.tools.plane.len() {
-        let Some((lit, coef)) = desk.tools.plane.term(k) else {
+fn weaken_all(trail: &Trail, tools: &mut Tools, level: usize, divisor: i64) -> Result<bool, AllocError> {
+    for k in 0..tools.plane.len() {
+        let Some((lit, coef)) = tools.plane.term(k) else {
             continue;
         };
         let less = rest(coef, divisor);
-        let is_false = desk.trail.side(lit, level) == Some(false);
-        if less > 0 && !is_false && !weaken(desk, lit, less)? {
+        let is_false = trail.side(lit, level) == Some(false);
+        if less > 0 && !is_false && !weaken(tools, lit, less)? {
             return Ok(false);
         }
     }
-    let mut spare = rest(desk.tools.plane.degree.saturating_sub(1), divisor);
-    for k in 0..desk.tools.plane.len() {
-        let Some((lit, coef)) = desk.tools.plane.term(k) else {
+    let mut spare = rest(tools.plane.degree.saturating_sub(1), divisor);
+    for k in 0..tools.plane.len() {
+        let Some((lit, coef)) = tools.plane.term(k) else {
             continue;
         };
         let less = rest(coef, divisor);
         if less > 0 && less <= spare {
-            if !weaken(desk, lit, less)? {
+            if !weaken(tools, lit, less)? {
                 return Ok(false);
             }
             spare = spare.saturating_sub(less);

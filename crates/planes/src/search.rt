@@ -90,7 +90,7 @@ fn next_conflict(desk: &mut Desk, vars: u32) -> Result<Option<usize>, AllocError
             desk.stock.drop_half(&desk.trail)?;
         }
     }
-    for _decision in 0..=vars {
+    for _decision in 0..u64::from(vars).saturating_add(1) {
         let conflict = desk.settle(vars)?;
         if desk.trail.level() == 0 {
             desk.plan_units()?;
@@ -123,7 +123,14 @@ fn meet(alloc: Global, desk: &mut Desk, row: usize) -> Result<Met, AllocError> {
         return Ok(Met::Refuted);
     }
     desk.order.age();
-    match cut(desk, row)? {
+    let outcome = cut(
+        &desk.stock,
+        &desk.trail,
+        &mut desk.order,
+        &mut desk.tools,
+        row,
+    )?;
+    match outcome {
         Outcome::Active => learn(alloc, desk),
         Outcome::Refuted => end_by_plane(alloc, desk),
         Outcome::Nothing => Ok(Met::Nothing),
