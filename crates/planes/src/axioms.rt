@@ -56,7 +56,7 @@ impl Axioms {
         let slot = lit.var() as usize * 2 + usize::from(!lit.positive());
         let mut number = self.numbers.get(slot).copied().unwrap_or(0);
         if number == 0 {
-            number = self.derive(draft, groups, lit)?;
+            number = self.derive(draft, &groups, lit)?;
             if let Some(at) = self.numbers.get_mut(slot) {
                 *at = number;
             }
@@ -65,8 +65,9 @@ impl Axioms {
     }
 
     /// Plans the steps of a literal's row. The answer is the row's number.
-    fn derive(&mut self, draft: &mut Draft, groups: Groups, lit: Lit) -> Result<u64, AllocError> {
-        let Groups { one, other, .. } = groups;
+    fn derive(&mut self, draft: &mut Draft, groups: &Groups, lit: Lit) -> Result<u64, AllocError> {
+        let one = groups.one;
+        let other = groups.other;
         if lit.var() == one.var() || lit.var() == other.var() {
             return self.around_first(draft, groups, &[lit]);
         }
@@ -85,7 +86,7 @@ impl Axioms {
     fn around_first(
         &mut self,
         draft: &mut Draft,
-        groups: Groups,
+        groups: &Groups,
         lits: &[Lit],
     ) -> Result<u64, AllocError> {
         self.clause.clear();

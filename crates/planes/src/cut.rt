@@ -113,7 +113,7 @@ fn resolve(
     tools.reason.load(held)?;
     if !tools
         .reason
-        .divide(trail, &mut tools.draft, &mut tools.axioms, point)?
+        .divide(trail, &mut tools.draft, &mut tools.axioms, &point)?
     {
         return Ok(false);
     }

@@ -79,7 +79,7 @@ impl Reason {
         trail: &Trail,
         draft: &mut Draft,
         axioms: &mut Axioms,
-        point: Point,
+        point: &Point,
     ) -> Result<bool, AllocError> {
         let divisor = self.coef(point.lit);
         if divisor <= 1 {
@@ -104,13 +104,14 @@ impl Reason {
     }
 
     /// How much the kth literal counts more than a multiple of the divisor, where it wasn't false before a place.
-    fn open_rest(&self, trail: &Trail, point: Point, k: usize, divisor: i64) -> i64 {
-        match self.terms.get(k) {
-            Some(term) if term.lit != point.lit && !trail.is_false_before(term.lit, point.place) => {
-                rest(term.coef, divisor)
-            }
-            _ => 0,
+    fn open_rest(&self, trail: &Trail, point: &Point, k: usize, divisor: i64) -> i64 {
+        let Some(Scaled { lit, coef }) = self.terms.get(k).copied() else {
+            return 0;
+        };
+        if lit == point.lit || trail.is_false_before(lit, point.place) {
+            return 0;
         }
+        rest(coef, divisor)
     }
 
     /// Weakens false literals to multiples of the divisor while the divided degree stays: first those that vanish.
