@@ -31,15 +31,17 @@ pub fn plane_floor<W: Watch>(
 ) -> Result<Option<Floor>, AllocError>
     requires some { 1 ≤ bound }
     requires counted { IsCounted league.now terms }
-    ensures floor { IfOk result (λ found. IfSome found (IsFloor league.now)) }
-    ensures bound { IfOk result (λ found. IfSome found (λ floor. floor.bound ≡ bound)) }
+    ensures { IfOk result (λ found. IfSome found (λ floor. IsFloor league.now floor × (floor.bound ≡ bound))) }
 {
-    let _n = league.n();
     let system = bound_system(alloc, league, bound - 1, terms)?;
     let found = searched(alloc, league, &system, limit, watch)?;
-    match found {
-        Some(log) if has_short_lines(&log) => Ok(Some(Floor { bound, log })),
-        _ => Ok(None),
+    let Some(log) = found else {
+        return Ok(None);
+    };
+    if has_short_lines(&log) {
+        Ok(Some(Floor { bound, log }))
+    } else {
+        Ok(None)
     }
 }
 
