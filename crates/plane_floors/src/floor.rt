@@ -56,7 +56,8 @@ fn searched<W: Watch>(
     ensures { IfOk result (λ found. IfSome found (IsRefutation
         (bound_rows system.now.league system.now.bound) (bound_vars system.now.league))) }
 {
-    let start = start_of(alloc, league, system.rows().len() as u64)?;
-    let found = refute(alloc, system.rows(), system.vars(), start, limit, watch)?;
+    let rows = system.rows();
+    let start = start_of(alloc, league, rows.len() as u64)?;
+    let found = refute(alloc, rows, system.vars(), start, limit, watch)?;
     Ok(found)
 }
