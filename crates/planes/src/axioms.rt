@@ -10,14 +10,19 @@ use rows::{Lit, RowStore};
 use std::alloc::{AllocError, Global};
 
 /// Two groups with no variable in common, and for each literal the number of its row, or 0 where that isn't derived yet.
-/// It only guides what is written, and no clause says what it holds.
+/// It only guides what is planned.
 #[derive(Drop)]
 pub(crate) struct Axioms {
-    groups: Option<Groups>,
-    /// The literals of the first group.
+    /// The literals of the first group, and the number of the row that says that at least one of them is true. The next
+    /// row says that at most one is. There is no literal where there are no such groups.
     first: Vec<Lit>,
+    least: u64,
+    /// Two literals of the second group, and the number of the row that says that at most one of it is true.
+    one: Lit,
+    other: Lit,
+    most: u64,
     numbers: Vec<u64>,
-    /// The number of the row of the second group's two literals, or 0.
+    /// The number of the row of these two literals, or 0.
     base: u64,
     clause: Vec<Lit>,
     sum: Parts,
@@ -29,19 +34,31 @@ impl Axioms {
     /// # Errors
     /// Only where memory runs out.
     pub(crate) fn new(alloc: Global, rows: &RowStore, vars: u32) -> Result<Axioms, AllocError> {
-        let groups = groups_of(rows);
-        let mut first = Vec::new(alloc);
-        if let Some(found) = groups {
-            add_literals(rows, found.least, &mut first)?;
-        }
-        Ok(Axioms {
-            groups,
-            first,
+        let mut axioms = Axioms {
+            first: Vec::new(alloc),
+            least: 0,
+            one: Lit::new(1, true),
+            other: Lit::new(1, true),
+            most: 0,
             numbers: vec![in alloc; 0; 2 * vars as usize + 2]?,
             base: 0,
             clause: Vec::new(alloc),
             sum: Parts::new(alloc),
-        })
+        };
+        if let Some(groups) = groups_of(rows) {
+            axioms.take_groups(rows, &groups)?;
+        }
+        Ok(axioms)
+    }
+
+    /// Takes the groups.
+    fn take_groups(&mut self, rows: &RowStore, groups: &Groups) -> Result<(), AllocError> {
+        add_literals(rows, groups.least, &mut self.first)?;
+        self.least = (groups.least as u64).saturating_add(1);
+        self.one = groups.one;
+        self.other = groups.other;
+        self.most = (groups.others as u64).saturating_add(2);
+        Ok(())
     }
 
     /// The number of the row that a literal counts at least 0. It is planned where it isn't there yet. None where it can't
@@ -50,13 +67,13 @@ impl Axioms {
     /// # Errors
     /// Only where memory runs out.
     pub(crate) fn number(&mut self, draft: &mut Draft, lit: Lit) -> Result<Option<u64>, AllocError> {
-        let Some(groups) = self.groups else {
+        if self.first.is_empty() {
             return Ok(None);
-        };
+        }
         let slot = lit.var() as usize * 2 + usize::from(!lit.positive());
         let mut number = self.numbers.get(slot).copied().unwrap_or(0);
         if number == 0 {
-            number = self.derive(draft, &groups, lit)?;
+            number = self.derive(draft, lit)?;
             if let Some(at) = self.numbers.get_mut(slot) {
                 *at = number;
             }
@@ -65,34 +82,29 @@ impl Axioms {
     }
 
     /// Plans the steps of a literal's row. The answer is the row's number.
-    fn derive(&mut self, draft: &mut Draft, groups: &Groups, lit: Lit) -> Result<u64, AllocError> {
-        let one = groups.one;
-        let other = groups.other;
+    fn derive(&mut self, draft: &mut Draft, lit: Lit) -> Result<u64, AllocError> {
+        let one = self.one;
+        let other = self.other;
         if lit.var() == one.var() || lit.var() == other.var() {
-            return self.around_first(draft, groups, &[lit]);
+            return self.around_first(draft, &[lit]);
         }
         if self.base == 0 {
-            let base = self.around_first(draft, groups, &[one, other])?;
+            let base = self.around_first(draft, &[one, other])?;
             self.base = base;
         }
-        let hint = (groups.others as u64).saturating_add(2);
-        let clause = draft.plan_clause(&[one.negate(), other.negate(), lit], &[hint])?;
+        let hint = self.most;
         let base = self.base;
+        let clause = draft.plan_clause(&[one.negate(), other.negate(), lit], &[hint])?;
         both(draft, &mut self.sum, clause, base)
     }
 
     /// Plans the row of some literals that aren't in the first group: from its clause with them behind it, and at most
     /// one of it. The answer is the row's number.
-    fn around_first(
-        &mut self,
-        draft: &mut Draft,
-        groups: &Groups,
-        lits: &[Lit],
-    ) -> Result<u64, AllocError> {
+    fn around_first(&mut self, draft: &mut Draft, lits: &[Lit]) -> Result<u64, AllocError> {
         self.clause.clear();
         self.clause.extend_from_slice(&self.first)?;
         self.clause.extend_from_slice(lits)?;
-        let least = (groups.least as u64).saturating_add(1);
+        let least = self.least;
         let clause = draft.plan_clause(&self.clause, &[least])?;
         both(draft, &mut self.sum, clause, least.saturating_add(1))
     }
