@@ -9,7 +9,7 @@ use Rattle.refutation.specs.Steps.{Step}
 use Rattle.refutation.specs.Places.{Place}
 use Rattle.refutation.specs.Feeding.{ReadsOn}
 use Rattle.refutation_check.specs.Judged.{Judged, after_step}
-use Rattle.refutation_check.specs.Room.{has_room}
+use Rattle.refutation_check.specs.Room.{StopsInTime, has_room}
 use Rattle.refutation_check.specs.declared.fault.StepsFault.{StepsFault}
 use Rattle.refutation_check.specs.declared.fault.StepsFault.TheVariants as wants
 use Rattle.command_check.specs.declared.feeding.FeedFault.TheVariants.{Failed, Full, TooLong}
@@ -25,11 +25,10 @@ take-past {X} (x ∷ xs) ys k =
     ap (λ (n : ℕ). take n (x ∷ xs ++ ys)) same ∙ ap (λ (l : List X). x ∷ l) (take-past xs ys k)
 
 -- some steps of a piece
-pub some-piece : (before now : Place) (none steps : List Step) (old new : Judged) (piece : List ℕ) → none ≡ []
-    → ReadsOn before none piece now steps
-    → ((k : ℕ) × (k ≤ length steps) × (new ≡ fold after_step old (take k steps))) → ChecksSome before old piece new
+pub some-piece : (limit : Option ℕ) (before now : Place) (none steps : List Step) (old new : Judged) (piece : List ℕ)
+    → none ≡ [] → ReadsOn before none piece now steps → StopsInTime limit old steps new → ChecksSome before old piece new
 unfolding checked-piece
-some-piece before now none steps old new piece empty reads some =
+some-piece limit before now none steps old new piece empty reads some =
     let whole = checked-piece before now none steps old (fold after_step old steps) piece empty reads refl in
     let same : steps ≡ whole.steps = reads.steps ∙ ap (λ (l : List Step). l ++ reads.added) empty in
     record {
