@@ -102,7 +102,7 @@ ENDS = {
 
 
 # How the texts of `--help`, of a page on a command and of `--version` begin.
-HELP = ("robin makes and judges", "usage: robin ", "robin 2.")
+HELP = ("robin makes and judges", "usage: robin ", "robin 3.")
 
 
 def is_lawful(command, status, text):

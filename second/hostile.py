@@ -5,11 +5,11 @@ python3 second/hostile.py PROGRAM [GROUP ..] [--cases N] [--seed N] [--keep FOLD
 PROGRAM is robin as it was built. Each GROUP (all but those of HEAVY where none is named) makes its cases in a folder of
 its own, runs the program on them under a limit of time and of memory, and compares the status and each byte with what
 the rules in words demand (forms.py, leagues.py, rows.py, logs.py). The groups of the commands of certificates and of
-seasons partly played stand in certified.py, those of what stands around the commands in doors.py. One line a group says
-how many cases there were and how many differed, and a table says it of all groups at the end; the input of each
-difference is kept in FOLDER. `--cases` is the number of changed files or logs. With `--total N` the groups that draw
-their cases are run with further seeds until there are N cases in all. `memory` and `faults` want cc; with `--only`
-they, and `devices`, take these commands alone.
+seasons partly played stand in certified.py, those of what stands around the commands in doors.py, of `--room` in
+rooms.py, of the floors of `prove` in floors.py. One line a group says how many cases there were and how many differed,
+and a table says it of all groups at the end; the input of each difference is kept in FOLDER. `--cases` is the number of
+changed files or logs. With `--total N` the groups that draw their cases are run with further seeds until there are N
+cases in all. `memory` and `faults` want cc; with `--only` they, and `devices`, take these commands alone.
 """
 
 import argparse
@@ -25,7 +25,9 @@ import time
 sys.path.insert(0, os.path.dirname(os.path.abspath(__file__)))
 import certified
 import doors
+import floors
 import forms
+import rooms
 import rows
 from attack import BATCH, C4_TEXT, I4, MIB, NO_BREAK, NO_HOME, NO_HOME_LOG, ONE_HOME, Tries
 from attack import checked, example, filled, instance_refusal, instance_text, is_lawful
@@ -302,7 +304,8 @@ def ranges(statuses):
 
 def commands(t):
     """Commands with the files that they read, as (words, names), of those that are asked for."""
-    return [it for it in [*stands(t), *certified.stands(t), *doors.stands(t)] if not t.only or it[0][0] in t.only]
+    found = [*stands(t), *certified.stands(t), *doors.stands(t), *rooms.stands(t), *floors.stands(t)]
+    return [it for it in found if not t.only or it[0][0] in t.only]
 
 
 def stands(t):
@@ -704,11 +707,12 @@ def steps(t):
     measured(t, "a sum of one row again and again", ["check", it, path], 1, told, os.path.getsize(path))
 
 
-HEAVY = [costly, steps, heavy, *certified.HEAVY, *doors.HEAVY]
+HEAVY = [costly, steps, heavy, *certified.HEAVY, *doors.HEAVY, *rooms.HEAVY, *floors.HEAVY]
 GROUPS = [prefixes, wild, limits, edges, memory, faults, devices, texts, mutants, files, large]
-GROUPS += [*certified.GROUPS, *doors.GROUPS, *HEAVY]
+GROUPS += [*certified.GROUPS, *doors.GROUPS, *rooms.GROUPS, *floors.GROUPS, *HEAVY]
 # Groups that draw their cases, as many as are asked for: another seed makes other cases.
-DRAWN = {"mutants", "files", "rechanged", "reshown", "said", "begun", "pictured", "listed", "valued", "nearby"}
+DRAWN = {"mutants", "files", "rechanged", "reshown", "said", "begun", "pictured", "listed", "valued", "nearby", "room_exact"}
+DRAWN.add("floors_drawn")
 
 
 class Table:
