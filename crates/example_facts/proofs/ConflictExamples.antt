@@ -276,12 +276,13 @@ conflict-open = record {
 }
 
 -- without a limit, and where nothing may stop the run, the case isn't one
-none_some : ◌≡◌ {A = Option ℕ} None (Some 0) → ⊥
-none_some is = cc
+none_some : (n : ℕ) → ◌≡◌ {A = Option ℕ} None (Some n) → ⊥
+none_some n is = cc
 
 pub case-unlimited : IsCase apart None ⊥ (1 ∷ []) 1 (Undecided []) → ⊥
 case-unlimited (inl is) =
-    none_some (sym (kept-unstopped None ⊥ is.kept (λ never. never) is.is_kept) ∙ is.spent.limited)
+    none_some (length is.spent.log.behind.search)
+    (sym (kept-unstopped None ⊥ is.kept (λ never. never) is.is_kept) ∙ is.spent.spent.limited)
 case-unlimited (inr untried) = untried.0
 
 -- where the run may be stopped it is: the others weren't tried
