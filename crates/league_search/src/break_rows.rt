@@ -8,7 +8,8 @@ use league::{Class, Constraint};
 use refutation::{Log, Part};
 use std::alloc::{AllocError, Global};
 
-/// The numbers of two rows of a slot, by slots: with as many home breaks as away breaks, and the other way round.
+/// The numbers of two rows of each slot but the first, from the last slot on: at least as many home breaks as away breaks,
+/// and at least as many away breaks.
 #[derive(Drop)]
 struct Balances {
     home: Vec<u64>,
@@ -17,6 +18,7 @@ struct Balances {
 
 /// The sums over a league's rows that say of its breaks:
 ///
+/// - where a team plays at home, no other team is at home against it;
 /// - in each slot there are as many home breaks as away breaks;
 /// - where a BR2 bounds the breaks of all teams, at most half of its bound are home breaks, and as many away breaks.
 ///
@@ -26,6 +28,7 @@ pub(crate) fn break_sums(alloc: Global, encoding: &Encoding) -> Result<Log, Allo
     let league = encoding.league();
     let frame = Frame::new(league);
     let mut writer = Writer::new(alloc, encoding.rows().len() as u64);
+    add_visits(alloc, &mut writer, frame)?;
     let balances = add_balances(alloc, &mut writer, frame)?;
     let constraints = league.constraints();
     for k in 0..constraints.len() {
@@ -45,7 +48,22 @@ pub(crate) fn break_sums(alloc: Global, encoding: &Encoding) -> Result<Log, Allo
     Ok(writer.finish())
 }
 
-/// Adds, for each slot, that there are as many home breaks as away breaks.
+/// Adds, for each team in each slot: it is not at home, or no other team is at home against it.
+///
+/// # Errors
+/// Only where memory runs out.
+fn add_visits(alloc: Global, writer: &mut Writer, frame: Frame) -> Result<(), AllocError> {
+    for team in 0..frame.n {
+        for slot in 0..frame.slots {
+            let rows = [frame.venue(team, slot), frame.one_game(team, slot)];
+            add_sum(alloc, writer, &rows, 1)?;
+        }
+    }
+    Ok(())
+}
+
+/// Adds, for each slot, that there are as many home breaks as away breaks. The last slot comes first: with that order more
+/// searches end within their limit.
 ///
 /// # Errors
 /// Only where memory runs out.
@@ -54,7 +72,7 @@ fn add_balances(alloc: Global, writer: &mut Writer, frame: Frame) -> Result<Bala
         home: Vec::new(alloc),
         away: Vec::new(alloc),
     };
-    for slot in 1..frame.slots {
+    for slot in (1..frame.slots).rev() {
         let home = add_balance(alloc, writer, frame, slot, true)?;
         balances.home.push(home)?;
         let away = add_balance(alloc, writer, frame, slot, false)?;
@@ -138,18 +156,19 @@ fn add_halves(
     if teams.numbers().len() < usize::from(frame.n) {
         return Ok(());
     }
-    add_half(alloc, writer, &balances.home, slots.numbers(), number)?;
-    add_half(alloc, writer, &balances.away, slots.numbers(), number)?;
+    add_half(alloc, writer, frame, &balances.home, slots.numbers(), number)?;
+    add_half(alloc, writer, frame, &balances.away, slots.numbers(), number)?;
     Ok(())
 }
 
-/// Adds the half of a bound of the breaks in some slots, by the rows of these slots.
+/// Adds the half of a bound of the breaks in some slots, by the rows of these slots. The first slot has none.
 ///
 /// # Errors
 /// Only where memory runs out.
 fn add_half(
     alloc: Global,
     writer: &mut Writer,
+    frame: Frame,
     balances: &[u64],
     slots: &[u16],
     number: u64,
@@ -157,10 +176,9 @@ fn add_half(
     let mut rows = Vec::new(alloc);
     rows.push(number)?;
     for slot in slots {
-        if *slot > 0 {
-            if let Some(row) = balances.get(usize::from(*slot) - 1) {
-                rows.push(*row)?;
-            }
+        let later = frame.slots.saturating_sub(1).saturating_sub(*slot);
+        if let Some(row) = balances.get(usize::from(later)) {
+            rows.push(*row)?;
         }
     }
     add_sum(alloc, writer, &rows, 2)?;
