@@ -156,8 +156,22 @@ fn add_halves(
     if teams.numbers().len() < usize::from(frame.n) {
         return Ok(());
     }
-    add_half(alloc, writer, frame, &balances.home, slots.numbers(), number)?;
-    add_half(alloc, writer, frame, &balances.away, slots.numbers(), number)?;
+    add_half(
+        alloc,
+        writer,
+        frame,
+        &balances.home,
+        slots.numbers(),
+        number,
+    )?;
+    add_half(
+        alloc,
+        writer,
+        frame,
+        &balances.away,
+        slots.numbers(),
+        number,
+    )?;
     Ok(())
 }
 
