@@ -1,5 +1,5 @@
 -- How the stages of `check` make an answer.
-use Rattle.std.proofs.Common.{◌≡◌, ℕ, ◌+◌, ◌<◌, ◌≤◌, List, [], length, Option, Result, Ok, Err, codes, inl, inr, sym}
+use Rattle.std.proofs.Common.{◌≡◌, ℕ, ◌+◌, ◌<◌, ◌≤◌, List, [], length, Option, Result, Ok, Err, codes, inl, inr, sym, true}
 use Rattle.std.proofs.Common.{ap, subst, refl, ◌∙◌}
 use Rattle.robin_io.specs.Outside.{Store}
 use Rattle.robin_io.specs.Rests.{IsRest}
@@ -22,9 +22,10 @@ use Rattle.refutation.specs.declared.fault.LogKind.{LogKind}
 use Rattle.refutation.specs.declared.verdict.Verdict.{Verdict}
 use Rattle.refutation.specs.declared.verdict.Verdict.TheVariants.{Accepted, Rejected}
 use Rattle.refutation_check.specs.Judged.{Judged, no_step_of, verdict_so_far}
+use Rattle.refutation_check.specs.Room.{has_room}
 use Rattle.refutation_check.proofs.VerdictLemmas.{steps_give_verdict}
 use Rattle.decoding.proofs.SeasonLemmas.{accepted_logs_exclude}
-use Rattle.command_check.specs.Check.{IsVerdict, IsVerdictOver, checked, encodes, most_log_bytes}
+use Rattle.command_check.specs.Check.{IsVerdict, IsVerdictWithin, checked, encodes, most_log_bytes}
 use Rattle.command_check.specs.Check.{says_log, verdict_answer}
 use Rattle.command_check.specs.Feeding.{ChecksOn}
 use Rattle.command_check.proofs.FeedingLemmas.{log-ended, log-faulty}
@@ -33,26 +34,26 @@ use Rattle.encoding.specs.Limit.{most_terms}
 -- ---- stages
 
 -- the instance file is read and says a league: what its rows come to is the answer
-after-league : (store : Store) (instance log first : List ℕ) (league : Instance) → IsFile (store.contents instance) INSTANCE_LIMIT first → instance_of (pieces first) ≡ Ok league
-    → (answer : Answer) → encodes league (λ rows. takes (codes "log") (store.contents log) most_log_bytes (store.took_more (length first + most_log_bytes)) (store.failed log) (λ bytes. says_log (log_of bytes) (IsVerdict league rows))) answer → checked store instance log answer
-after-league store instance log first league is_first says_league answer rest =
+after-league : (store : Store) (room : Option ℕ) (instance log first : List ℕ) (league : Instance) → IsFile (store.contents instance) INSTANCE_LIMIT first → instance_of (pieces first) ≡ Ok league
+    → (answer : Answer) → encodes league (λ rows. takes (codes "log") (store.contents log) most_log_bytes (store.took_more (length first + most_log_bytes)) (store.failed log) (λ bytes. says_log (log_of bytes) (IsVerdict league rows room))) answer → checked store room instance log answer
+after-league store room instance log first league is_first says_league answer rest =
     inl (
       first,
       is_first,
       says-value (codes "instance") (instance_of (pieces first)) league (λ l. encodes l (λ rows.
           takes (codes "log") (store.contents log) most_log_bytes (store.took_more (length first + most_log_bytes))
-          (store.failed log) (λ bytes. says_log (log_of bytes) (IsVerdict l rows)))) answer says_league rest,
+          (store.failed log) (λ bytes. says_log (log_of bytes) (IsVerdict l rows room)))) answer says_league rest,
     )
 
 -- the league's rows are too many
-pub checked-large : (store : Store) (instance log first : List ℕ) (league : Instance) → IsFile (store.contents instance) INSTANCE_LIMIT first → instance_of (pieces first) ≡ Ok league
-    → (answer : Answer) → (most_terms < encoding_size league) × (answer ≡ too_large (encoding_size league)) → checked store instance log answer
-checked-large store instance log first league is_first says_league answer large = after-league store instance log first league is_first says_league answer (inr large)
+pub checked-large : (store : Store) (room : Option ℕ) (instance log first : List ℕ) (league : Instance) → IsFile (store.contents instance) INSTANCE_LIMIT first → instance_of (pieces first) ≡ Ok league
+    → (answer : Answer) → (most_terms < encoding_size league) × (answer ≡ too_large (encoding_size league)) → checked store room instance log answer
+checked-large store room instance log first league is_first says_league answer large = after-league store room instance log first league is_first says_league answer (inr large)
 
 -- the league's rows aren't too many: the rest is the answer to the log
-pub checked-log : (store : Store) (instance log first : List ℕ) (league : Instance) → IsFile (store.contents instance) INSTANCE_LIMIT first → instance_of (pieces first) ≡ Ok league → encoding_size league ≤ most_terms
-    → (answer : Answer) → takes (codes "log") (store.contents log) most_log_bytes (store.took_more (length first + most_log_bytes)) (store.failed log) (λ bytes. says_log (log_of bytes) (IsVerdict league (rows_of league))) answer → checked store instance log answer
-checked-log store instance log first league is_first says_league small answer rest = after-league store instance log first league is_first says_league answer (inl (small, rest))
+pub checked-log : (store : Store) (room : Option ℕ) (instance log first : List ℕ) (league : Instance) → IsFile (store.contents instance) INSTANCE_LIMIT first → instance_of (pieces first) ≡ Ok league → encoding_size league ≤ most_terms
+    → (answer : Answer) → takes (codes "log") (store.contents log) most_log_bytes (store.took_more (length first + most_log_bytes)) (store.failed log) (λ bytes. says_log (log_of bytes) (IsVerdict league (rows_of league) room)) answer → checked store room instance log answer
+checked-log store room instance log first league is_first says_league small answer rest = after-league store room instance log first league is_first says_league answer (inl (small, rest))
 
 -- the log's file is read: the answer is that to what it says
 pub log-file : (known : Option (List ℕ)) (long failed : Type 0) (next : List ℕ → Outcome) (bytes : List ℕ)
@@ -61,19 +62,19 @@ pub log-file : (known : Option (List ℕ)) (long failed : Type 0) (next : List �
 log-file known long failed next bytes is_file answer given = inl (bytes, is_file, given)
 
 -- what the rest of a run answers to the log is what the whole answers
-pub checked-within : (whole rest : Store) (instance log first : List ℕ) (league encoded : Instance)
+pub checked-within : (whole rest : Store) (room : Option ℕ) (instance log first : List ℕ) (league encoded : Instance)
     → IsRest (length first) whole rest → IsFile (whole.contents instance) INSTANCE_LIMIT first
     → instance_of (pieces first) ≡ Ok league → encoded ≡ league → encoding_size league ≤ most_terms
     → (answer : Answer)
     → reads rest (codes "log") log most_log_bytes 0
-    (λ bytes. says_log (log_of bytes) (IsVerdict encoded (rows_of encoded))) answer
-    → checked whole instance log answer
-checked-within whole rest instance log first league encoded is_rest is_first says_league same small answer given =
+    (λ bytes. says_log (log_of bytes) (IsVerdict encoded (rows_of encoded) room)) answer
+    → checked whole room instance log answer
+checked-within whole rest room instance log first league encoded is_rest is_first says_league same small answer given =
     let verdict : Instance → List ℕ → Outcome =
-    λ l bytes. says_log (log_of bytes) (IsVerdict l (rows_of l)) in
+    λ l bytes. says_log (log_of bytes) (IsVerdict l (rows_of l) room) in
     let at_league : reads rest (codes "log") log most_log_bytes 0 (verdict league) answer =
     subst (λ (l : Instance). reads rest (codes "log") log most_log_bytes 0 (verdict l) answer) same given in
-    checked-log whole instance log first league is_first says_league small answer
+    checked-log whole room instance log first league is_first says_league small answer
     (takes-rest (length first) whole rest is_rest (codes "log") log most_log_bytes (verdict league) answer at_league)
 
 -- ---- the verdict
@@ -83,53 +84,58 @@ is_accepted steps Accepted accepted = refl
 is_accepted steps (Rejected step cause) accepted = cc
 
 -- the verdict on a log that the rows of a league were given
-pub verdict-given : (league : Instance) (steps : List Step) (answer : Answer) → IsInstance league → answer ≡ verdict_answer (length steps) (verdict_of (rows_of league) (var_count league) steps)
-    → IsVerdict league (rows_of league) steps answer
-verdict-given league steps answer instance is = record {
-  verdict = is;
-  refuted = λ accepted. accepted_logs_exclude league steps instance (is_accepted (length steps) (verdict_of (rows_of league) (var_count league) steps) (sym (ap (λ (a : Answer). a.status) is) ∙ accepted));
+pub verdict-given : (league : Instance) (room : Option ℕ) (steps : List Step) (answer : Answer) → IsInstance league
+    → IsVerdictWithin (rows_of league) (var_count league) room steps answer
+    → IsVerdict league (rows_of league) room steps answer
+verdict-given league room steps answer instance is = record {
+  verdict = is.verdict;
+  within = is.within;
+  refuted = λ accepted. accepted_logs_exclude league steps instance (is_accepted (length steps) (verdict_of (rows_of league) (var_count league) steps) (sym (ap (λ (a : Answer). a.status) is.verdict) ∙ accepted));
 }
 
 -- what is judged over the rows of a league says that it accepts nothing, where the verdict says yes
-said-verdict : (league : Instance) (said : Result (List Step) Fault) (answer : Answer) → IsInstance league
-    → says_log said (IsVerdictOver (rows_of league) (var_count league)) answer
-    → says_log said (IsVerdict league (rows_of league)) answer
-said-verdict league (Ok steps) answer instance is = verdict-given league steps answer instance is
-said-verdict league (Err fault) answer instance is = is
+said-verdict : (league : Instance) (room : Option ℕ) (said : Result (List Step) Fault) (answer : Answer) → IsInstance league
+    → says_log said (IsVerdictWithin (rows_of league) (var_count league) room) answer
+    → says_log said (IsVerdict league (rows_of league) room) answer
+said-verdict league room (Ok steps) answer instance is = verdict-given league room steps answer instance is
+said-verdict league room (Err fault) answer instance is = is
 
-pub read-verdict : (known : Option (List ℕ)) (long failed : Type 0) (league : Instance) (answer : Answer)
+pub read-verdict : (known : Option (List ℕ)) (long failed : Type 0) (league : Instance) (room : Option ℕ) (answer : Answer)
     → IsInstance league
     → takes (codes "log") known most_log_bytes long failed
-    (λ bytes. says_log (log_of bytes) (IsVerdictOver (rows_of league) (var_count league))) answer
+    (λ bytes. says_log (log_of bytes) (IsVerdictWithin (rows_of league) (var_count league) room)) answer
     → takes (codes "log") known most_log_bytes long failed
-    (λ bytes. says_log (log_of bytes) (IsVerdict league (rows_of league))) answer
-read-verdict known long failed league answer instance (inl read) =
-    inl (read.0, read.1, said-verdict league (log_of read.0) answer instance read.2)
-read-verdict known long failed league answer instance (inr unread) = inr unread
+    (λ bytes. says_log (log_of bytes) (IsVerdict league (rows_of league) room)) answer
+read-verdict known long failed league room answer instance (inl read) =
+    inl (read.0, read.1, said-verdict league room (log_of read.0) answer instance read.2)
+read-verdict known long failed league room answer instance (inr unread) = inr unread
 
 said-steps : (said : Result (List Step) Fault) (steps : List Step) (next : List Step → Outcome) (answer : Answer)
     → said ≡ Ok steps → next steps answer → says_log said next answer
 said-steps said steps next answer is after = subst (λ r. says_log r next answer) (sym is) after
 
 -- the log ends without a fault
-pub ended-verdict : (rows : List Row) (vars : ℕ) (bytes : List ℕ) (now : Place) (new : Judged) (count : ℕ)
+pub ended-verdict : (rows : List Row) (vars : ℕ) (room : Option ℕ) (bytes : List ℕ) (now : Place) (new : Judged) (count : ℕ)
     (verdict : Verdict) (answer : Answer) → ChecksOn start (no_step_of rows vars) bytes now new count
-    → log_from now [] ≡ nothing_more → verdict ≡ verdict_so_far new → answer ≡ verdict_answer count verdict
-    → says_log (log_of bytes) (IsVerdictOver rows vars) answer
-ended-verdict rows vars bytes now new count verdict answer checked ended said is =
+    → log_from now [] ≡ nothing_more → has_room room new ≡ true → verdict ≡ verdict_so_far new
+    → answer ≡ verdict_answer count verdict → says_log (log_of bytes) (IsVerdictWithin rows vars room) answer
+ended-verdict rows vars room bytes now new count verdict answer checked ended has said is =
     let steps : List Step = checked.steps in
     let judged : verdict ≡ verdict_of rows vars steps =
     said ∙ ap verdict_so_far checked.judged ∙ steps_give_verdict rows vars steps in
-    said-steps (log_of bytes) steps (IsVerdictOver rows vars) answer
+    said-steps (log_of bytes) steps (IsVerdictWithin rows vars room) answer
     (log-ended (no_step_of rows vars) bytes now new count checked ended)
-    (is ∙ ap (λ n. verdict_answer n verdict) checked.counted ∙ ap (verdict_answer (length steps)) judged)
+    (record {
+      verdict = is ∙ ap (λ n. verdict_answer n verdict) checked.counted ∙ ap (verdict_answer (length steps)) judged;
+      within = subst (λ (s : Judged). has_room room s ≡ true) checked.judged has;
+    })
 
 -- the log ends with a fault
-pub faulty-log : (rows : List Row) (vars : ℕ) (bytes : List ℕ) (now : Place) (new : Judged) (count : ℕ)
+pub faulty-log : (rows : List Row) (vars : ℕ) (room : Option ℕ) (bytes : List ℕ) (now : Place) (new : Judged) (count : ℕ)
     (kind : LogKind) (line : ℕ) (answer : Answer) → ChecksOn start (no_step_of rows vars) bytes now new count
     → log_from now [] ≡ no_steps_but kind line → answer ≡ log_malformed kind line
-    → says_log (log_of bytes) (IsVerdictOver rows vars) answer
-faulty-log rows vars bytes now new count kind line answer checked fault is =
-    let next : List Step → Outcome = IsVerdictOver rows vars in
+    → says_log (log_of bytes) (IsVerdictWithin rows vars room) answer
+faulty-log rows vars room bytes now new count kind line answer checked fault is =
+    let next : List Step → Outcome = IsVerdictWithin rows vars room in
     subst (λ (said : Result (List Step) Fault). says_log said next answer)
     (sym (log-faulty (no_step_of rows vars) bytes now new count kind line checked fault)) is

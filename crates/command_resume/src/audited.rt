@@ -63,7 +63,7 @@ fn audit_log<S: Shelf>(
 ) -> Result<Reply, NoValue>
     requires slots { system.now.k ≤ counts.slot_count system.now.league.n }
     ensures answer { Answers (reads (store_between S.Shelf shelf.old shelf.new) (codes "log") name.now most_log_bytes 0
-        (λ bytes. says_log (log_of bytes) (IsVerdict system.now.league system.now.played system.now.k))) result }
+        (λ bytes. says_log (log_of bytes) (IsVerdict system.now.league system.now.played system.now.k limit))) result }
     ensures taken { S.taken shelf.new ≤ S.taken shelf.old + (most_log_bytes + 1) }
     ensures contents { (n : List ℕ) → S.contents shelf.new n ≡ S.contents shelf.old n }
 {
@@ -84,7 +84,7 @@ pub fn audit_file<S: Shelf>(
     audit: Audit,
     log: &str,
 ) -> Result<Reply, NoValue>
-    ensures answer { Answers (audited (store_between S.Shelf shelf.old shelf.new)
+    ensures answer { Answers (audited (store_between S.Shelf shelf.old shelf.new) audit.limit
         instance.now solution.now audit.k log.now) result }
     ensures taken { S.taken shelf.new ≤ S.taken shelf.old + (INSTANCE_LIMIT + 1 + (SOLUTION_LIMIT + 1) + (most_log_bytes + 1)) }
     ensures contents { (n : List ℕ) → S.contents shelf.new n ≡ S.contents shelf.old n }

@@ -213,19 +213,18 @@ log-ends Ends file fault known long failed next answer later given =
     (λ bytes at_bytes. said_log-ends Ends file (log_of bytes) next answer later at_bytes) given
 
 checked-ends : (Ends : Status → Type 0) → Ends File → Ends ReadFault → Ends Yes → Ends No
-    → (store : Store)
-    (instance log : List ℕ) (answer : Answer) → checked store instance log answer
-    → Ends answer.status
-checked-ends Ends file fault ends_yes ends_no store instance log answer given =
+    → (store : Store) (room : Option ℕ) (instance log : List ℕ) (answer : Answer)
+    → checked store room instance log answer → Ends answer.status
+checked-ends Ends file fault ends_yes ends_no store room instance log answer given =
     league-ends Ends file fault (store.contents instance) (store.took_more INSTANCE_LIMIT) (store.failed instance)
     (λ first league. encodes league
     (λ rows. takes (codes "log") (store.contents log) most_log_bytes (store.took_more (length first + most_log_bytes)) (store.failed log)
-    (λ bytes. says_log (log_of bytes) (IsVerdict league rows)))) answer
+    (λ bytes. says_log (log_of bytes) (IsVerdict league rows room)))) answer
     (λ first league at_league. encodes-ends Ends file league
     (λ rows. takes (codes "log") (store.contents log) most_log_bytes (store.took_more (length first + most_log_bytes)) (store.failed log)
-    (λ bytes. says_log (log_of bytes) (IsVerdict league rows))) answer
+    (λ bytes. says_log (log_of bytes) (IsVerdict league rows room))) answer
     (λ rows at_rows. log-ends Ends file fault (store.contents log) (store.took_more (length first + most_log_bytes)) (store.failed log)
-    (IsVerdict league rows) answer
+    (IsVerdict league rows room) answer
     (λ steps verdict. ends-as Ends answer _ verdict.verdict (verdict-ends Ends ends_yes ends_no (length steps) _))
     at_rows)
     at_league) given
@@ -493,15 +492,15 @@ neared-ends Ends file fault ends_yes refuted spent store instance solution k lim
     given
 
 audited-ends : (Ends : Status → Type 0) → Ends File → Ends ReadFault → Ends Yes → Ends No
-    → (store : Store)
+    → (store : Store) (room : Option ℕ)
     (instance solution : List ℕ) (k : ℕ) (log : List ℕ) (answer : Answer)
-    → audited store instance solution k log answer → Ends answer.status
-audited-ends Ends file fault ends_yes ends_no store instance solution k log answer given =
+    → audited store room instance solution k log answer → Ends answer.status
+audited-ends Ends file fault ends_yes ends_no store room instance solution k log answer given =
     plays-ends Ends file fault store instance solution k
     (λ league played bytes. takes (codes "log") (store.contents log) most_log_bytes (store.took_more (bytes + most_log_bytes))
-    (store.failed log) (λ third. says_log (log_of third) (auditing.IsVerdict league played k))) answer
+    (store.failed log) (λ third. says_log (log_of third) (auditing.IsVerdict league played k room))) answer
     (λ league played bytes at_season. log-ends Ends file fault (store.contents log) (store.took_more (bytes + most_log_bytes))
-    (store.failed log) (auditing.IsVerdict league played k) answer
+    (store.failed log) (auditing.IsVerdict league played k room) answer
     (λ steps verdict. ends-as Ends answer _ verdict.verdict (verdict-ends Ends ends_yes ends_no (length steps) _))
     at_season) given
 
@@ -587,7 +586,7 @@ answer-ends may_stop room (Some (Sheet instance solution)) store answer given =
     seen-ends (EndsBy (Some (Sheet instance solution))) refl refl refl refl store instance
     solution Csv answer given
 answer-ends may_stop room (Some (Check instance log)) store answer given =
-    checked-ends (EndsBy (Some (Check instance log))) refl refl refl refl store instance log answer
+    checked-ends (EndsBy (Some (Check instance log))) refl refl refl refl store room instance log answer
     given
 answer-ends may_stop room (Some (Solve instance budgets)) store answer given =
     solved-ends (EndsBy (Some (Solve instance budgets))) refl refl refl refl refl store instance
@@ -617,7 +616,7 @@ answer-ends may_stop room (Some (ResumeNear instance solution k budgets)) store 
     neared-ends (EndsBy (Some (ResumeNear instance solution k budgets))) refl refl refl refl refl store instance solution
     k (IsKeptTo budgets.conflicts may_stop) may_stop answer given
 answer-ends may_stop room (Some (Audit instance solution k log)) store answer given =
-    audited-ends (EndsBy (Some (Audit instance solution k log))) refl refl refl refl store instance
+    audited-ends (EndsBy (Some (Audit instance solution k log))) refl refl refl refl store room instance
     solution k log answer given
 answer-ends may_stop room (Some (Rows instance goal)) store answer given =
     rowed-ends (EndsBy (Some (Rows instance goal))) refl refl refl store instance goal answer given

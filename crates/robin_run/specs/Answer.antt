@@ -38,7 +38,7 @@ IsAnswer may_stop room (Some (Show instance solution most width)) store answer =
     shown store instance solution (Text most width) answer
 IsAnswer may_stop room (Some (Demands instance members)) store answer = demanded store instance members answer
 IsAnswer may_stop room (Some (Sheet instance solution)) store answer = shown store instance solution Csv answer
-IsAnswer may_stop room (Some (Check instance log)) store answer = checked store instance log answer
+IsAnswer may_stop room (Some (Check instance log)) store answer = checked store room instance log answer
 IsAnswer may_stop room (Some (Solve instance budgets)) store answer = solved store instance budgets may_stop answer
 IsAnswer may_stop room (Some (SolveFrom instance solution budgets)) store answer =
     begun store instance solution budgets may_stop answer
@@ -53,7 +53,7 @@ IsAnswer may_stop room (Some (Resume instance solution k conflicts)) store answe
 IsAnswer may_stop room (Some (ResumeNear instance solution k budgets)) store answer =
     neared store instance solution k (IsKeptTo budgets.conflicts may_stop) may_stop answer
 IsAnswer may_stop room (Some (Audit instance solution k log)) store answer =
-    audited store instance solution k log answer
+    audited store room instance solution k log answer
 IsAnswer may_stop room (Some (Rows instance goal)) store answer = rowed store instance goal answer
 IsAnswer may_stop room (Some (Values instance values)) store answer = valued store instance values answer
 IsAnswer may_stop room (Some (Circle n)) store answer = answer ≡ circle_season n

@@ -21,7 +21,7 @@ returns-clause-answer g c =
     subst (λ (n : ℕ). g.S.Shelf.taken c.file.new.shelf ≡ raised (g.S.Shelf.taken c.args.shelf.now) n)
     (sym c.deref.ensures.len) c.in_ok-first.ensures.count in
     Answers-wider _ _
-    (checked-within whole rest c.args.instance.now c.args.log.now first c.in_ok-league.league
+    (checked-within whole rest c.args.limit c.args.instance.now c.args.log.now first c.in_ok-league.league
     c.in_ok-encoding.encoding
     (rest-between g.S.Shelf c.args.shelf.now c.file.new.shelf c.check_log.new.shelf (length first)
     c.in_ok-first.ensures.contents taken c.in_ok-first.ensures.later)

@@ -1,10 +1,12 @@
-use Rattle.std.proofs.Common.{subst}
+use Rattle.std.proofs.Common.{◌≡◌, true, ap, subst, ◌∙◌}
 use Rattle.robin_io.specs.Outside.{Store, store_between}
 use Rattle.refutation.specs.Logs.{log_of}
 use Rattle.refutation.specs.Places.{Place, start}
 use Rattle.refutation_check.specs.Judged.{Judged, no_step_of}
+use Rattle.refutation_check.specs.Room.{has_room}
+use Rattle.refutation_check.proofs.RoomLemmas.{room_of_none}
 use Rattle.answers.proofs.StageLemmas.{Answers-wider}
-use Rattle.command_check.specs.Check.{IsVerdictOver, most_log_bytes, says_log}
+use Rattle.command_check.specs.Check.{IsVerdictWithin, most_log_bytes, says_log}
 use Rattle.command_check.specs.Feeding.{ChecksOn}
 use Rattle.command_check.proofs.StageLemmas.{log-file}
 use Rattle.command_check.proofs.stages.judge_log.Goals as goal
@@ -21,7 +23,10 @@ returns-clause-answer g c = λ rows vars none.
     file.checked in
     let from_none : ChecksOn start (no_step_of rows vars) file.bytes now new c.in_ok-steps.steps =
     subst (λ (s : Judged). ChecksOn start s file.bytes now new c.in_ok-steps.steps) none from_start in
+    let begun : has_room c.args.limit c.args.checker.now ≡ true =
+    ap (λ (s : Judged). has_room c.args.limit s) none ∙ room_of_none rows vars c.args.limit in
     Answers-wider _ _
     (log-file (store.contents c.args.name.now) (store.took_more most_log_bytes) (store.failed c.args.name.now)
-    (λ bytes. says_log (log_of bytes) (IsVerdictOver rows vars)) file.bytes file.file)
-    c.verdict_on.result (c.verdict_on.ensures.verdict rows vars file.bytes from_none)
+    (λ bytes. says_log (log_of bytes) (IsVerdictWithin rows vars c.args.limit)) file.bytes file.file)
+    c.verdict_on.result
+    (c.verdict_on.ensures.verdict rows vars c.args.limit file.bytes from_none (c.in_ok-steps.ensures.within begun))

@@ -19,7 +19,7 @@ returns-clause-answer g c =
     let whole : Store = store_between g.S.Shelf c.args.shelf.now c.audit_log.new.shelf in
     let rest : Store = store_between g.S.Shelf c.season_in.new.shelf c.audit_log.new.shelf in
     Answers-wider _ _
-    (audited-within whole rest c.args.instance.now c.args.solution.now c.args.audit.k c.args.log.now c.in_ok-season.season
+    (audited-within whole rest c.args.audit.limit c.args.instance.now c.args.solution.now c.args.audit.k c.args.log.now c.in_ok-season.season
     c.in_ok-season.ensures.season
     (rest-between g.S.Shelf c.args.shelf.now c.season_in.new.shelf c.audit_log.new.shelf c.in_ok-season.season.bytes
     c.in_ok-season.ensures.contents c.in_ok-season.ensures.count c.in_ok-season.ensures.later))
@@ -27,7 +27,7 @@ returns-clause-answer g c =
     (subst
     (λ (s : PartlyPlayed).
     Answers (reads rest (codes "log") c.args.log.now most_log_bytes 0
-    (λ bytes. says_log (log_of bytes) (IsVerdict s.league s.played s.k))) c.audit_log.result)
+    (λ bytes. says_log (log_of bytes) (IsVerdict s.league s.played s.k c.args.audit.limit))) c.audit_log.result)
     c.in_ok-system.ensures c.audit_log.ensures.answer)
 
 -- the first two files are refused
@@ -37,5 +37,5 @@ returns-in_err-season-clause-answer g c =
     let never : Season → Outcome = λ season answer. ⊥ in
     Answers-wider (plays store c.args.instance.now c.args.solution.now c.args.audit.k never) _
     (λ answer. plays-wider store c.args.instance.now c.args.solution.now c.args.audit.k never
-    (at_log store c.args.log.now c.args.audit.k) answer (λ season none. absurd none))
+    (at_log store c.args.audit.limit c.args.log.now c.args.audit.k) answer (λ season none. absurd none))
     _ (search rules)

@@ -13,7 +13,7 @@ returns-clause-answer g c =
     Answers-wider _ _
     (λ answer. read-verdict (store.contents c.args.name.now) (store.took_more most_log_bytes)
     (store.failed c.args.name.now)
-    c.args.system.now.league c.args.system.now.played c.args.system.now.k answer c.in_ok-checker.ensures.instance
+    c.args.system.now.league c.args.system.now.played c.args.system.now.k c.args.limit answer c.in_ok-checker.ensures.instance
     c.requires.slots)
     c.judge_log.result
     (c.judge_log.ensures.answer (rows_for c.args.system.now) (var_count c.args.system.now.league)
