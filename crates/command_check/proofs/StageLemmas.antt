@@ -2,14 +2,19 @@
 use Rattle.std.proofs.Common.{◌≡◌, ℕ, ◌+◌, ◌<◌, ◌≤◌, List, [], length, Option, Result, Ok, Err, codes, inl, inr, sym, true}
 use Rattle.std.proofs.Common.{ap, subst, refl, ◌∙◌}
 use Rattle.robin_io.specs.Outside.{Store}
+use Rattle.robin_io.specs.Counts.{raised}
 use Rattle.robin_io.specs.Rests.{IsRest}
 use Rattle.league.specs.Instance.{Instance, IsInstance}
 use Rattle.rows.specs.Rows.{Row}
 use Rattle.robinx_tags.specs.Pieces.{pieces}
 use Rattle.robinx_form.specs.InstanceFile.{instance_of}
+use Rattle.robinx_form.specs.Walk as forms
 use Rattle.robinx_read.specs.declared.instance.TheConstants.{INSTANCE_LIMIT}
 use Rattle.answers.specs.Reply.{Answer, log_malformed, too_large}
-use Rattle.answers.specs.Stages.{Outcome, IsFile, reads, takes}
+use Rattle.answers.specs.SeenReply.{IsMalformed, MatchStage}
+use Rattle.answers.specs.Stages.{Outcome, IsFile, reads, says, takes}
+use Rattle.answers.specs.declared.reply.NoValue.{NoValue}
+use Rattle.answers.specs.declared.reply.NoValue.TheVariants.{Refused, Memory, Room}
 use Rattle.answers.specs.declared.status.Status.TheVariants.{Yes}
 use Rattle.answers.proofs.StageLemmas.{says-value, takes-rest}
 use Rattle.encoding.specs.Encoding.{encoding_size, rows_of}
@@ -28,6 +33,8 @@ use Rattle.decoding.proofs.SeasonLemmas.{accepted_logs_exclude}
 use Rattle.command_check.specs.Check.{IsVerdict, IsVerdictWithin, checked, encodes, most_log_bytes}
 use Rattle.command_check.specs.Check.{says_log, verdict_answer}
 use Rattle.command_check.specs.Feeding.{ChecksOn}
+use Rattle.command_check.specs.Reading.{ReadsLeague}
+use Rattle.command_check.proofs.AnswerLemmas.{log_stages}
 use Rattle.command_check.proofs.FeedingLemmas.{log-ended, log-faulty}
 use Rattle.encoding.specs.Limit.{most_terms}
 
@@ -43,6 +50,18 @@ after-league store room instance log first league is_first says_league answer re
       says-value (codes "instance") (instance_of (pieces first)) league (λ l. encodes l (λ rows.
           takes (codes "log") (store.contents log) most_log_bytes (store.took_more (length first + most_log_bytes))
           (store.failed log) (λ bytes. says_log (log_of bytes) (IsVerdict l rows room)))) answer says_league rest,
+    )
+
+-- the instance file has a fault of form
+pub checked-malformed : (store : Store) (room : Option ℕ) (instance log first : List ℕ)
+    → IsFile (store.contents instance) INSTANCE_LIMIT first → (answer : Answer)
+    → IsMalformed (codes "instance") (instance_of (pieces first)) answer → checked store room instance log answer
+checked-malformed store room instance log first is_first answer faulty =
+    inl (
+      first,
+      is_first,
+      subst (λ (said : Result Instance forms.Fault). says (codes "instance") said (log_stages store room log (length first)) answer)
+          (sym faulty.1) faulty.2,
     )
 
 -- the league's rows are too many
@@ -61,21 +80,35 @@ pub log-file : (known : Option (List ℕ)) (long failed : Type 0) (next : List �
     → takes (codes "log") known most_log_bytes long failed next answer
 log-file known long failed next bytes is_file answer given = inl (bytes, is_file, given)
 
+-- the instance file is read, and the rows of its league are made
+pub reads-league : (known : Option (List ℕ)) (before after : ℕ) (bytes : List ℕ) (league encoded : Instance)
+    → IsFile known INSTANCE_LIMIT bytes → after ≡ raised before (length bytes) → instance_of (pieces bytes) ≡ Ok league
+    → (encoded ≡ league) × (encoding_size league ≤ most_terms) → ReadsLeague known before after encoded
+reads-league known before after bytes league encoded file taken says_league made =
+    let read : ReadsLeague known before after league =
+    record { bytes = bytes; file = file; taken = taken; says_league = says_league; small = made.1 } in
+    subst (λ (l : Instance). ReadsLeague known before after l) (sym made.0) read
+
+-- what holds of a stage holds in other words
+pub stage-wider : {X : Type 0} (goes goes_wide : X → Type 0) (narrow wide : Outcome)
+    → ((x : X) → goes x → goes_wide x) → ((answer : Answer) → narrow answer → wide answer) → (result : Result X NoValue)
+    → MatchStage result goes narrow → MatchStage result goes_wide wide
+stage-wider goes goes_wide narrow wide goes_on wider (Ok x) given = goes_on x given
+stage-wider goes goes_wide narrow wide goes_on wider (Err (Refused refusal)) given = wider _ given
+stage-wider goes goes_wide narrow wide goes_on wider (Err Memory) given = tt
+stage-wider goes goes_wide narrow wide goes_on wider (Err Room) given = tt
+
 -- what the rest of a run answers to the log is what the whole answers
-pub checked-within : (whole rest : Store) (room : Option ℕ) (instance log first : List ℕ) (league encoded : Instance)
-    → IsRest (length first) whole rest → IsFile (whole.contents instance) INSTANCE_LIMIT first
-    → instance_of (pieces first) ≡ Ok league → encoded ≡ league → encoding_size league ≤ most_terms
+pub checked-within : (whole rest : Store) (room : Option ℕ) (instance log : List ℕ) (before after : ℕ) (league : Instance)
+    → (read : ReadsLeague (whole.contents instance) before after league) → IsRest (length read.bytes) whole rest
     → (answer : Answer)
     → reads rest (codes "log") log most_log_bytes 0
-    (λ bytes. says_log (log_of bytes) (IsVerdict encoded (rows_of encoded) room)) answer
+    (λ bytes. says_log (log_of bytes) (IsVerdict league (rows_of league) room)) answer
     → checked whole room instance log answer
-checked-within whole rest room instance log first league encoded is_rest is_first says_league same small answer given =
-    let verdict : Instance → List ℕ → Outcome =
-    λ l bytes. says_log (log_of bytes) (IsVerdict l (rows_of l) room) in
-    let at_league : reads rest (codes "log") log most_log_bytes 0 (verdict league) answer =
-    subst (λ (l : Instance). reads rest (codes "log") log most_log_bytes 0 (verdict l) answer) same given in
-    checked-log whole room instance log first league is_first says_league small answer
-    (takes-rest (length first) whole rest is_rest (codes "log") log most_log_bytes (verdict league) answer at_league)
+checked-within whole rest room instance log before after league read is_rest answer given =
+    checked-log whole room instance log read.bytes league read.file read.says_league read.small answer
+    (takes-rest (length read.bytes) whole rest is_rest (codes "log") log most_log_bytes
+    (λ bytes. says_log (log_of bytes) (IsVerdict league (rows_of league) room)) answer given)
 
 -- ---- the verdict
 

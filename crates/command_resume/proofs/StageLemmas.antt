@@ -13,10 +13,8 @@ use Rattle.robinx_form.specs.SolutionFile.{solution_of}
 use Rattle.robinx_form.specs.Walk as forms
 use Rattle.robinx_read.specs.declared.instance.TheConstants.{INSTANCE_LIMIT, SOLUTION_LIMIT}
 use Rattle.answers.specs.Reply.{Answer}
-use Rattle.answers.specs.SeenReply.{IsMalformed, MatchStage}
+use Rattle.answers.specs.SeenReply.{IsMalformed}
 use Rattle.answers.specs.Stages.{IsFile, IsUnread, Outcome, reads, says, takes}
-use Rattle.answers.specs.declared.reply.NoValue.{NoValue}
-use Rattle.answers.specs.declared.reply.NoValue.TheVariants.{Refused, Memory, Room}
 use Rattle.answers.proofs.StageLemmas.{says-value, takes-rest}
 use Rattle.encoding_base.specs.Variables.{var_count}
 use Rattle.refutation.specs.Logs.{Fault, log_of}
@@ -239,15 +237,6 @@ plays-wider store instance solution k narrow wide answer wider given =
     (λ played.
     wider (record { league = league; played = played; slots = k; bytes = length first + length second })))))))
     given
-
--- a stage that refuses so refuses as is allowed
-pub stage-wider : {X : Type 0} (goes : X → Type 0) (narrow wide : Outcome)
-    → ((answer : Answer) → narrow answer → wide answer) → (result : Result X NoValue)
-    → MatchStage result goes narrow → MatchStage result goes wide
-stage-wider goes narrow wide wider (Ok x) given = given
-stage-wider goes narrow wide wider (Err (Refused refusal)) given = wider _ given
-stage-wider goes narrow wide wider (Err Memory) given = tt
-stage-wider goes narrow wide wider (Err Room) given = tt
 
 -- two files were read, one after the other
 pub raised-twice : (old between now front more : ℕ) → between ≡ raised old front → now ≡ raised between more

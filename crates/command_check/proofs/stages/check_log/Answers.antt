@@ -17,3 +17,8 @@ returns-clause-answer g c =
     c.judge_log.result
     (c.judge_log.ensures.answer (rows_of c.args.encoding.now) (var_count c.args.encoding.now)
     c.in_ok-checker.ensures.checker)
+
+pub returns-clause-full : goal.returns-clause-full
+returns-clause-full g c = λ is.
+    c.judge_log.ensures.passes is (rows_of c.args.encoding.now) (var_count c.args.encoding.now)
+    c.in_ok-checker.ensures.checker
