@@ -54,8 +54,8 @@ pub record IsFloored (league : Instance) (games : List Game) (output : Output) :
 
 pub record Promise (run : Run) (instance solution : List ℕ) (conflicts : Option ℕ) : Type 0 where
   -- What is shown of the season of a well-formed case is written, where nothing fails: the report of `validate` where
-  -- the season isn't accepted, a certificate, a better season, or a floor and a log that is spent at the budget, while
-  -- no single move betters the season. Where the run may be stopped, the budget may be lower than the one that was set,
+  -- the season isn't accepted, a certificate, a better season, or a floor below it and a log that is spent at the budget,
+  -- while no single move betters the season. Where the run may be stopped, the budget may be lower than the one that was set,
   -- and a move may better the season.
   pub proved : (league : Instance) (games : List Game)
       → IsWellFormedCase run.store instance solution league games → NothingFails run (instance ∷ solution ∷ [])
