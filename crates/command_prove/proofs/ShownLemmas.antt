@@ -17,10 +17,13 @@ use Rattle.answers.specs.Reply.{Answer}
 use Rattle.answers.specs.SeenReply.{answer_of}
 use Rattle.answers.specs.declared.reply.Reply.{Reply}
 use Rattle.answers.specs.declared.status.Status.{Status}
+use Rattle.answers.specs.declared.status.Status.TheVariants as statuses
 use Rattle.answers.specs.declared.status.Status.TheVariants.{Yes, No}
-use Rattle.refutation.specs.Logs.{Fault}
+use Rattle.refutation.specs.Logs.{Fault, log_of}
 use Rattle.refutation.specs.Steps.{Step}
+use Rattle.refutation.specs.Texts.{log_text}
 use Rattle.refutation.specs.Verdict.{verdict_of}
+use Rattle.refutation.specs.Writable.{HasShortLines}
 use Rattle.refutation.specs.declared.verdict.Verdict.TheVariants.{Accepted}
 use Rattle.clause_search.specs.Answers.{Refutes}
 use Rattle.bound_rows.specs.BoundRows.{bound_rows, bound_vars}
@@ -35,7 +38,7 @@ use Rattle.command_prove.specs.Bound.{bound_verdict}
 use Rattle.floors.specs.Floors.{IsFloor}
 use Rattle.floors.specs.declared.floor.Floor.{Floor}
 use Rattle.command_prove.specs.Prove.{IsCertified, IsShown, IsShownBy, spent_text}
-use Rattle.command_prove.specs.Told.{CanBeWritten, Tells, TellsBeside}
+use Rattle.command_prove.specs.Told.{CanBeWritten, Tells, TellsBeside, TellsFloored, TellsLeast}
 
 -- ---- what a test says
 
@@ -175,6 +178,32 @@ proved-written league m limit may_stop (Better better cost) is = tt
 proved-written league m limit may_stop (Spent log) is = is.named
 
 -- ---- the same of a reply, unless memory ran out
+
+-- what is written beside a floor that is no less than the schedule's objective, and beside one that is
+pub told-least : {E : Type 0} (league : Instance) (costs : ℕ) (floor : Floor) (log : List Step)
+    (result : Result Reply E) → IsFloor league floor → costs ≤ floor.bound
+    → IfOk result (λ reply. TellsLeast floor.bound floor.log (answer_of reply))
+    → IfOk result (λ reply. TellsFloored league costs log (answer_of reply))
+told-least {E} league costs floor log (Ok reply) found least told = (floor, found, inl (least, told))
+told-least {E} league costs floor log (Err error) found least told = tt
+
+pub told-spent : {E : Type 0} (league : Instance) (costs : ℕ) (floor : Floor) (log : List Step)
+    (result : Result Reply E) → IsFloor league floor → floor.bound < costs
+    → IfOk result (λ reply. (answer_of reply).status ≡ statuses.Spent)
+    → IfOk result (λ reply. (answer_of reply).text ≡ spent_text costs floor.bound floor.log log)
+    → IfOk result (λ _. certificate_of (certificate_text floor.bound floor.log)
+    ≡ Ok (record { bound = floor.bound; log = floor.log }))
+    → IfOk result (λ _. HasShortLines log → log_of (log_text log) ≡ Ok log)
+    → IfOk result (λ reply. TellsFloored league costs log (answer_of reply))
+told-spent {E} league costs floor log (Ok reply) found below status text floor_reads_back reads_back = (
+  floor,
+  found,
+  inr (
+    below,
+    record { status = status; text = text; floor_reads_back = floor_reads_back; reads_back = reads_back },
+  ),
+)
+told-spent {E} league costs floor log (Err error) found below status text floor_reads_back reads_back = tt
 
 pub replied-rejected : {E : Type 0} (league : Instance) (conflicts : Option ℕ) (may_stop : Type 0)
     (games : List Game) (result : Result Reply E) → (IsAccepted league (counts_of games) → ⊥)

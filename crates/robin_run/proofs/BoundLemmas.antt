@@ -74,6 +74,7 @@ floored league conflicts games answer output shown written = record {
   steps = shown.steps;
   accepted = shown.accepted;
   least = shown.certified.least;
+  below = shown.below;
   certified = shown.certified.proves;
   reads_back = shown.certified.reads_back;
   written = subst (λ (text : List ℕ). Appends output.before output.after text) shown.text written;
