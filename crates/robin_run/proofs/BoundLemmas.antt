@@ -22,14 +22,14 @@ use Rattle.refutation.specs.declared.verdict.Verdict.TheVariants.{Accepted, Reje
 use Rattle.command_check.specs.Check.{most_log_bytes}
 use Rattle.bounds.specs.Certificates.{certificate_of}
 use Rattle.bounds.specs.declared.certificate.Certificate.{Certificate}
-use Rattle.command_prove.specs.Bound.{IsBoundVerdict, IsWithinRoom, bound_answer, bound_verdict}
+use Rattle.command_prove.specs.Bound.{IsBoundVerdict, IsWellFormedCertificate, IsWithinRoom, bound_answer, bound_verdict}
 use Rattle.command_prove.specs.Bound.{bounded, has_few_terms, says_certificate}
 use Rattle.command_prove.proofs.BoundAnswers.{bounded-known, bounded-well_formed}
 use Rattle.command_prove.specs.Prove as proving
 use Rattle.command_prove.specs.Prove.{IsLeast, IsLeastByFloor, IsShownBy, proved}
 use Rattle.command_prove.proofs.ProveAnswers.{ShowsAs, proved-known, proved-well_formed}
 use Rattle.command_resume.specs.Seasons.{SaySeason}
-use Rattle.robin_run.specs.Bound.{Bounds, IsCertified, SayCertificate}
+use Rattle.robin_run.specs.Bound.{Bounds, IsCertified}
 use Rattle.robin_run.specs.Prove.{IsBettered, IsFloored, IsUnbettered, Proves}
 use Rattle.robin_run.specs.Run.{Answered, Run}
 use Rattle.robin_run.proofs.RunLemmas.{writes, writes-as}
@@ -186,24 +186,25 @@ bounded-certified store room instance log bytes league answer output known says_
 
 -- an answer with this status, which no refused file has, is the verdict on a certificate that is known
 told-within : (store : Store) (room : Option ℕ) (instance log : List ℕ) (league : Instance) (certificate : Certificate)
-    (answer : Answer) (status : Status) → SayCertificate store instance log league certificate
+    (answer : Answer) (status : Status) → IsWellFormedCertificate store instance log league certificate
     → answer.status ≡ status → (status ≡ File → ⊥) → (status ≡ ReadFault → ⊥) → bounded store room instance log answer
     → IsWithinRoom league room certificate
-told-within store room instance log league certificate answer status known is no_file no_fault given =
-    (bounded-known store room instance log known.first known.second league certificate answer known.first_known
-    known.second_known known.says_league known.says_certificate (λ file. no_file (sym is ∙ file))
+told-within store room instance log league certificate answer status good is no_file no_fault given =
+    (bounded-known store room instance log good.first good.second league certificate answer good.first_known
+    good.second_known good.says_league good.says_certificate (λ file. no_file (sym is ∙ file))
     (λ fault. no_fault (sym is ∙ fault)) given).within
 
 within-room : (run : Run) → Answered run → (instance log : List ℕ) → run.command ≡ Some (Bound instance log)
-    → (league : Instance) (certificate : Certificate) → SayCertificate run.store instance log league certificate
+    → (league : Instance) (certificate : Certificate)
+    → IsWellFormedCertificate run.store instance log league certificate
     → (run.ended ≡ Yes) ⊎ (run.ended ≡ No) → IsWithinRoom league run.room certificate
-within-room run answered instance log is league certificate known (inl ended) =
+within-room run answered instance log is league certificate good (inl ended) =
     let whole = writes-as run (Bound instance log) Yes answered is ended (λ same. cc) (λ same. cc) in
-    told-within run.store run.room instance log league certificate whole.answer Yes known whole.status_is (λ same. cc)
+    told-within run.store run.room instance log league certificate whole.answer Yes good whole.status_is (λ same. cc)
     (λ same. cc) whole.given
-within-room run answered instance log is league certificate known (inr ended) =
+within-room run answered instance log is league certificate good (inr ended) =
     let whole = writes-as run (Bound instance log) No answered is ended (λ same. cc) (λ same. cc) in
-    told-within run.store run.room instance log league certificate whole.answer No known whole.status_is (λ same. cc)
+    told-within run.store run.room instance log league certificate whole.answer No good whole.status_is (λ same. cc)
     (λ same. cc) whole.given
 
 pub bounds : (run : Run) → Answered run → Bounds run
@@ -215,5 +216,5 @@ bounds run answered instance log is = record {
       let whole = writes-as run (Bound instance log) Yes answered is ended (λ same. cc) (λ same. cc) in
       bounded-certified run.store run.room instance log said.bytes league whole.answer run.output said.known
       said.says_league whole.status_is whole.written whole.given;
-  within = λ league certificate known ended. within-room run answered instance log is league certificate known ended;
+  within = λ league certificate good ended. within-room run answered instance log is league certificate good ended;
 }

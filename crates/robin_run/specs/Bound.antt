@@ -1,15 +1,12 @@
 -- What `bound` promises: a certificate gets its verdict.
-use Rattle.std.specs.Prelude.{◌≡◌, ◌⊎◌, ℕ, List, [], ◌∷◌, ◌++◌, codes, decimal, Some, Ok}
+use Rattle.std.specs.Prelude.{◌≡◌, ◌⊎◌, ℕ, List, [], ◌∷◌, ◌++◌, codes, decimal, Some}
 use Rattle.std.specs.Io.KnownBytes.{Appends}
-use Rattle.robin_io.specs.Outside.{Output, Store}
+use Rattle.robin_io.specs.Outside.{Output}
 use Rattle.league.specs.Instance.{Instance}
-use Rattle.robinx_tags.specs.Pieces.{pieces}
-use Rattle.robinx_form.specs.InstanceFile.{instance_of}
 use Rattle.command_line.specs.Words.{Command}
 use Rattle.answers.specs.declared.status.Status.TheVariants.{Yes, No}
 use Rattle.bound_rows.specs.Faithful.{IsLowerBound}
 use Rattle.command_prove.specs.Bound.{IsBoundVerdict, IsWellFormedCertificate, IsWithinRoom}
-use Rattle.bounds.specs.Certificates.{certificate_of}
 use Rattle.bounds.specs.declared.certificate.Certificate.{Certificate}
 use Rattle.robin_run.specs.Said.{SaysLeague}
 use Rattle.robin_run.specs.Run.{NothingFails, Run, Writes}
@@ -22,23 +19,8 @@ pub record IsCertified (league : Instance) (output : Output) : Type 0 where
   pub written : Appends output.before output.after
       (codes "accepted bound " ++ (decimal bound ++ (codes " steps " ++ (decimal steps ++ codes "\n"))))
 
--- two files whose bytes are known, and that say a league and a certificate
-pub record SayCertificate
-    (store : Store)
-    (instance log : List ℕ)
-    (league : Instance)
-    (certificate : Certificate)
-    : Type 0 where
-  pub first : List ℕ
-  pub second : List ℕ
-  pub first_known : store.contents instance ≡ Some first
-  pub second_known : store.contents log ≡ Some second
-  pub says_league : instance_of (pieces first) ≡ Ok league
-  pub says_certificate : certificate_of second ≡ Ok certificate
-
 pub record Promise (run : Run) (instance log : List ℕ) : Type 0 where
-  -- A well-formed certificate over a league whose bound rows aren't too many gets its verdict, where nothing fails, and
-  -- then its steps take no more than the room that the words give them.
+  -- A well-formed certificate over a league whose bound rows aren't too many gets its verdict, where nothing fails.
   pub bounded : (league : Instance) (certificate : Certificate)
       → IsWellFormedCertificate run.store instance log league certificate
       → NothingFails run (instance ∷ log ∷ [])
@@ -48,9 +30,9 @@ pub record Promise (run : Run) (instance log : List ℕ) : Type 0 where
       → SaysLeague run.store instance league
       → run.ended ≡ Yes
       → IsCertified league run.output
-  -- Where a certificate is accepted or rejected, its steps take no more than that room.
+  -- A well-formed certificate is accepted or rejected only where its steps keep to the room that the words give.
   pub within : (league : Instance) (certificate : Certificate)
-      → SayCertificate run.store instance log league certificate
+      → IsWellFormedCertificate run.store instance log league certificate
       → (run.ended ≡ Yes) ⊎ (run.ended ≡ No)
       → IsWithinRoom league run.room certificate
 
