@@ -25,16 +25,16 @@ pub record Promise (run : Run) (instance log : List ℕ) : Type 0 where
       → IsWellFormedCertificate run.store instance log league certificate
       → NothingFails run (instance ∷ log ∷ [])
       → Writes run (IsBoundVerdict league run.room certificate)
-  -- Where a certificate is accepted, each accepted season has an objective of at least the bound that is written.
-  pub certified : (league : Instance)
-      → SaysLeague run.store instance league
-      → run.ended ≡ Yes
-      → IsCertified league run.output
   -- A well-formed certificate is accepted or rejected only where its steps keep to the room that the words give.
   pub within : (league : Instance) (certificate : Certificate)
       → IsWellFormedCertificate run.store instance log league certificate
       → (run.ended ≡ Yes) ⊎ (run.ended ≡ No)
       → IsWithinRoom league run.room certificate
+  -- Where a certificate is accepted, each accepted season has an objective of at least the bound that is written.
+  pub certified : (league : Instance)
+      → SaysLeague run.store instance league
+      → run.ended ≡ Yes
+      → IsCertified league run.output
 
 -- each run of `bound` keeps it
 abbrev pub Bounds : Run → Type 0
