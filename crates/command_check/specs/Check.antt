@@ -1,6 +1,6 @@
 -- What `check` answers: its stages in their order, and the verdict on a log.
 use Rattle.std.specs.Prelude.{◌≡◌, ℕ, ◌<◌, ◌≤◌, ◌⊎◌, List, ◌++◌, length, codes, decimal}
-use Rattle.std.specs.Prelude.{Option, Some, None, IfSome, Result, Ok, Err}
+use Rattle.std.specs.Prelude.{Option, Some, IfSome, Result, Ok, Err}
 use Rattle.robin_io.specs.Outside.{Store}
 use Rattle.robinx_tags.specs.Pieces.{pieces}
 use Rattle.league.specs.Instance.{Instance}
@@ -14,7 +14,8 @@ use Rattle.encoding.specs.Encoding.{encoding_size, rows_of}
 use Rattle.encoding.specs.Limit.{most_terms}
 use Rattle.encoding.specs.Variables.{var_count}
 use Rattle.refutation.specs.Steps.{Step}
-use Rattle.refutation.specs.Logs.{Fault, lines_from, lines_of, log_of}
+use Rattle.refutation.specs.Logs.{Fault, log_of}
+use Rattle.refutation.specs.Places.{log_from, start}
 use Rattle.refutation.specs.Verdict.{verdict_of}
 use Rattle.refutation.specs.declared.verdict.Cause.{Cause}
 use Rattle.refutation.specs.declared.verdict.Cause.TheVariants.{UnknownRow, UnknownVariable, NoConflict, NoEmptyClause}
@@ -91,15 +92,11 @@ checked store room instance log = do
 
 -- ---- want of room
 
--- the steps that the text of a log says before its first fault of form
-abbrev pub steps_in : List ℕ → List Step
-steps_in text = (lines_from None 1 (lines_of text)).steps
-
 -- The file of a log, whose bytes are known or not, begins with bytes that say some first steps that pass a limit.
 pub record LogPassesRoom (known : Option (List ℕ)) (rows : List Row) (vars : ℕ) (room : Option ℕ) : Type 0 where
   pub front : List ℕ
   pub begins : IfSome known (λ file. (rest : List ℕ) × (file ≡ front ++ rest))
-  pub passes : PassesRoom rows vars room (steps_in front)
+  pub passes : PassesRoom rows vars room (log_from start front).steps
 
 -- Over the rows of the league that the instance file says, some first steps of the log pass a limit.
 pub record LacksRoom (store : Store) (room : Option ℕ) (instance log : List ℕ) : Type 0 where

@@ -164,11 +164,7 @@ fn check_log<S: Shelf>(
 ///
 /// # Errors
 /// Where the file is refused, with the reply that says why, and where memory runs out.
-fn encoding_in<S: Shelf>(
-    alloc: Global,
-    shelf: &mut S,
-    instance: &str,
-) -> Result<Encoding, NoValue>
+fn encoding_in<S: Shelf>(alloc: Global, shelf: &mut S, instance: &str) -> Result<Encoding, NoValue>
     ensures stage { let store = store_between S.Shelf shelf.old shelf.new in MatchStage result
         (ReadsLeague (store.contents instance.now) (S.taken shelf.old) (S.taken shelf.new))
         (λ answer. (room : Option ℕ) (log : List ℕ) → checked store room instance.now log answer) }

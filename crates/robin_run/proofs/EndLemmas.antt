@@ -348,9 +348,11 @@ shown-ends Ends ends_yes ends_no better spent league conflicts may_stop games an
     ends-with Ends answer No rejected.status ends_no
 shown-ends Ends ends_yes ends_no better spent league conflicts may_stop games answer (inr (inl least)) =
     ends-with Ends answer Yes least.status ends_yes
-shown-ends Ends ends_yes ends_no better spent league conflicts may_stop games answer (inr (inr (inl bettered))) =
+shown-ends Ends ends_yes ends_no better spent league conflicts may_stop games answer (inr (inr (inl least))) =
+    ends-with Ends answer Yes least.status ends_yes
+shown-ends Ends ends_yes ends_no better spent league conflicts may_stop games answer (inr (inr (inr (inl bettered)))) =
     ends-with Ends answer Better bettered.status better
-shown-ends Ends ends_yes ends_no better spent league conflicts may_stop games answer (inr (inr (inr log))) =
+shown-ends Ends ends_yes ends_no better spent league conflicts may_stop games answer (inr (inr (inr (inr log)))) =
     ends-with Ends answer Spent log.status spent
 
 proved-ends : (Ends : Status → Type 0) → Ends File → Ends ReadFault → Ends Yes → Ends No → Ends Better → Ends Spent
@@ -388,21 +390,21 @@ said_certificate-ends Ends file (Ok certificate) next answer later given = later
 said_certificate-ends Ends file (Err fault) next answer later given = ends-as Ends answer _ given file
 
 bounded-ends : (Ends : Status → Type 0) → Ends File → Ends ReadFault → Ends Yes → Ends No
-    → (store : Store)
-    (instance log : List ℕ) (answer : Answer) → bounded store instance log answer
+    → (store : Store) (room : Option ℕ)
+    (instance log : List ℕ) (answer : Answer) → bounded store room instance log answer
     → Ends answer.status
-bounded-ends Ends file fault ends_yes ends_no store instance log answer given =
+bounded-ends Ends file fault ends_yes ends_no store room instance log answer given =
     league-ends Ends file fault (store.contents instance) (store.took_more INSTANCE_LIMIT) (store.failed instance)
     (λ first league. has_few_terms league
     (λ few. takes (codes "log") (store.contents log) most_log_bytes (store.took_more (length first + most_log_bytes)) (store.failed log)
-    (λ second. says_certificate (certificate_of second) (IsBoundVerdict league)))) answer
+    (λ second. says_certificate (certificate_of second) (IsBoundVerdict league room)))) answer
     (λ first league at_league. few-ends Ends file league
     (λ few. takes (codes "log") (store.contents log) most_log_bytes (store.took_more (length first + most_log_bytes)) (store.failed log)
-    (λ second. says_certificate (certificate_of second) (IsBoundVerdict league))) answer
+    (λ second. says_certificate (certificate_of second) (IsBoundVerdict league room))) answer
     (λ at_few. read-ends Ends file fault (codes "log") (store.contents log) most_log_bytes
     (store.took_more (length first + most_log_bytes)) (store.failed log)
-    (λ second. says_certificate (certificate_of second) (IsBoundVerdict league)) answer
-    (λ second at_second. said_certificate-ends Ends file (certificate_of second) (IsBoundVerdict league) answer
+    (λ second. says_certificate (certificate_of second) (IsBoundVerdict league room)) answer
+    (λ second at_second. said_certificate-ends Ends file (certificate_of second) (IsBoundVerdict league room) answer
     (λ certificate verdict. ends-as Ends answer _ verdict.verdict
     (bound_verdict-ends Ends ends_yes ends_no certificate.bound (length certificate.log)
     (bound_verdict league certificate.bound certificate.log))) at_second) at_few) at_league) given
@@ -607,7 +609,7 @@ answer-ends may_stop room (Some (Prove instance solution conflicts)) store answe
     proved-ends (EndsBy (Some (Prove instance solution conflicts))) refl refl refl refl refl refl store instance solution
     (IsKeptTo conflicts may_stop) may_stop answer given
 answer-ends may_stop room (Some (Bound instance log)) store answer given =
-    bounded-ends (EndsBy (Some (Bound instance log))) refl refl refl refl store instance log answer
+    bounded-ends (EndsBy (Some (Bound instance log))) refl refl refl refl store room instance log answer
     given
 answer-ends may_stop room (Some (Resume instance solution k conflicts)) store answer given =
     resumed-ends (EndsBy (Some (Resume instance solution k conflicts))) refl refl refl refl refl store instance solution

@@ -47,7 +47,7 @@ IsAnswer may_stop room (Some (Explain instance conflicts)) store answer = explai
 IsAnswer may_stop room (Some (Part instance members)) store answer = parted store instance members answer
 IsAnswer may_stop room (Some (Prove instance solution conflicts)) store answer =
     proved store instance solution (IsKeptTo conflicts may_stop) may_stop answer
-IsAnswer may_stop room (Some (Bound instance log)) store answer = bounded store instance log answer
+IsAnswer may_stop room (Some (Bound instance log)) store answer = bounded store room instance log answer
 IsAnswer may_stop room (Some (Resume instance solution k conflicts)) store answer =
     resumed store instance solution k (IsKeptTo conflicts may_stop) answer
 IsAnswer may_stop room (Some (ResumeNear instance solution k budgets)) store answer =

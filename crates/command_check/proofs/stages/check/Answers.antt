@@ -1,10 +1,12 @@
-use Rattle.std.proofs.Common.{List, ℕ, Option, length, subst}
+use Rattle.std.proofs.Common.{sym, List, ℕ, Option, length, subst}
 use Rattle.robin_io.specs.Outside.{Store, store_between}
 use Rattle.robin_io.proofs.StoreLemmas.{rest-between}
 use Rattle.encoding.specs.Encoding.{rows_of}
 use Rattle.encoding.specs.Variables.{var_count}
 use Rattle.answers.proofs.StageLemmas.{Answers-wider}
-use Rattle.command_check.specs.Check.{LogPassesRoom}
+use Rattle.answers.specs.SeenReply.{answer_of}
+use Rattle.answers.specs.declared.refusal.Refusal.{Refusal}
+use Rattle.command_check.specs.Check.{LogPassesRoom, checked}
 use Rattle.command_check.proofs.StageLemmas.{checked-within}
 use Rattle.command_check.proofs.stages.check.Goals as goal
 
@@ -38,5 +40,9 @@ returns-in-Ok-clause-full g c = λ is.
 -- the instance file is refused
 pub returns-in-Err-Refused-clause-answer : goal.returns-in-Err-Refused-clause-answer
 returns-in-Err-Refused-clause-answer g c =
-    let refused = rw c.in-Err-Refused.field-0-is at c.in-Err-Refused.ensures.stage in
-    refused c.args.limit c.args.log.now
+    let store : Store = store_between g.S.Shelf c.args.shelf.now c.encoding_in.new.shelf in
+    let stage = rw c.in-Err-Refused.field-0-is at c.in-Err-Refused.ensures.stage in
+    let refused : checked store c.args.limit c.args.instance.now c.args.log.now (answer_of c.in-Err-Refused.refusal.reply) =
+    stage c.args.limit c.args.log.now in
+    subst (λ (refusal : Refusal). checked store c.args.limit c.args.instance.now c.args.log.now (answer_of refusal.reply))
+    (sym c.in-Err-Refused.refusal-is) refused

@@ -20,7 +20,7 @@ returns-in_err-first-clause-stage g c =
     ReadsLeague (store.contents name) (g.S.Shelf.taken c.args.shelf.now) (g.S.Shelf.taken c.file.new.shelf) in
     stage-wider goes goes
     (IsUnread (codes "instance") (store.contents name) INSTANCE_LIMIT (store.took_more INSTANCE_LIMIT) (store.failed name)) _
-    (λ league is. is) (λ answer unread room log. inr unread) c.from_residual-in_err-first.result (search rules)
+    (λ league is. is) (λ answer unread room log. inr unread) c.from_residual.result (search rules)
 
 -- the file has a fault of form, or memory ran out
 pub returns-in_err-league-clause-stage : goal.returns-in_err-league-clause-stage

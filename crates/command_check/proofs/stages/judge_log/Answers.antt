@@ -39,9 +39,9 @@ returns-clause-answer g c = λ rows vars none.
 -- some first steps of the log pass the limit
 pub returns-in_err-steps-clause-passes : goal.returns-in_err-steps-clause-passes
 returns-in_err-steps-clause-passes g c = λ is rows vars none.
-    let p = err_from_is_err_and c.from_residual-in_err-steps.result c.from_residual-in_err-steps.ensures.1 in
+    let p = err_from_is_err_and c.from_residual.result c.from_residual.ensures.1 in
     let why : NoValue = c.in_err-steps.field-0.0 in
-    let ended : c.from_residual-in_err-steps.result ≡ Err p.0 = p.1 in
+    let ended : c.from_residual.result ≡ Err p.0 = p.1 in
     let same : p.0 ≡ why = p.2 in
     let wanting : why ≡ Room = cc in
     let known : Option (List ℕ) = g.S.Shelf.contents c.args.shelf.now c.args.name.now in

@@ -107,7 +107,8 @@ pub returns-in-Bound-clause-answer : goal.returns-in-Bound-clause-answer
 returns-in-Bound-clause-answer g c =
     rw c.in-Bound.is
     (given-gives
-    (bounded (store_between g.S.Shelf c.args.shelf.now c.bound_file.new.shelf) c.in-Bound.instance.now c.in-Bound.log.now)
+    (bounded (store_between g.S.Shelf c.args.shelf.now c.bound_file.new.shelf) c.args.limit c.in-Bound.instance.now
+    c.in-Bound.log.now)
     _ _ c.give-in-Bound.ensures c.bound_file.ensures.answer)
 
 pub returns-in-Resume-clause-answer : goal.returns-in-Resume-clause-answer
