@@ -65,7 +65,7 @@ says_log (Err fault) next answer = answer ≡ log_malformed fault.0 fault.1
 abbrev pub IsVerdictOver : List Row → ℕ → List Step → Outcome
 IsVerdictOver rows vars steps answer = answer ≡ verdict_answer (length steps) (verdict_of rows vars steps)
 
--- The same verdict, which is said only where the steps of the log keep to a limit.
+-- The verdict on a log over rows of so many variables, which is said only where the steps of the log keep to a limit.
 pub record IsVerdictWithin (rows : List Row) (vars : ℕ) (room : Option ℕ) (steps : List Step) (answer : Answer) : Type 0
   where
     pub verdict : IsVerdictOver rows vars steps answer

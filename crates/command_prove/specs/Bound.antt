@@ -96,7 +96,7 @@ pub record ReadCertificate (store : Store) (instance log : List ℕ) (league : I
     pub small : bound_size league ≤ most_terms
     pub says_certificate : certificate_of second ≡ Ok certificate
 
--- They do, and some first steps of the certificate pass a limit.
+-- Two files say a league and a certificate, of which some first steps pass a limit.
 pub record LacksRoom (store : Store) (room : Option ℕ) (instance log : List ℕ) : Type 0 where
   pub league : Instance
   pub certificate : Certificate
