@@ -192,7 +192,7 @@ def floored_fault(instance, text, objective, limit):
         proof, end, log = log.partition(b"\nend\n")
         floor += proof + end
     verdict = bounded(instance, floor)
-    if verdict[0] != 0 or int(bound.split()[-1]) > objective:
+    if verdict[0] != 0 or int(bound.split()[-1]) >= objective:
         return f"{bound} {verdict}"
     return spent_fault(log, *rows.with_bound(softened_of(instance), objective - 1), limit)
 

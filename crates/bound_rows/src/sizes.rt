@@ -16,8 +16,8 @@ use encoding_base::{
 use encoding_sizes::literal_count;
 use league::{Class, ClassName};
 
-/// How many terms the groups of a class have that fits a league of n teams. The count takes no memory. It takes no
-/// longer if there are more terms.
+/// How many terms the groups of a class have that fits a league of n teams. The count takes no memory, and a step for
+/// each key.
 pub(crate) fn class_terms(n: u16, class: &Class) -> u64
     requires n { IsTeamCount n }
     requires fits { IsTrue (class_fits n class.now) }

@@ -132,12 +132,12 @@ unfolding digits
 accepted-one = refl
 
 -- where nothing fails, this is the one answer to `check league good`
-pub checked-good : (answer : Answer) → checked store (codes "league") (codes "good") answer → answer ≡ record { status = Yes; text = codes "accepted steps 1\n" }
+pub checked-good : (answer : Answer) → checked store None (codes "league") (codes "good") answer → answer ≡ record { status = Yes; text = codes "accepted steps 1\n" }
 checked-good answer given =
-    (checked-well_formed store (codes "league") (codes "good") homeless good_steps answer good-formed nothing_fails given).verdict ∙ ap (verdict_answer 1) good-verdict ∙ accepted-one
+    (checked-well_formed store None (codes "league") (codes "good") homeless good_steps answer good-formed nothing_fails given).verdict ∙ ap (verdict_answer 1) good-verdict ∙ accepted-one
 
 -- where nothing fails, the one answer to `check league bad`: the fault of form, though a step before it is rejected
-pub checked-bad : (answer : Answer) → checked store (codes "league") (codes "bad") answer → answer ≡ log_malformed BadLine 3
+pub checked-bad : (answer : Answer) → checked store None (codes "league") (codes "bad") answer → answer ≡ log_malformed BadLine 3
 checked-bad answer given =
-    let told = checked-at_log store (codes "league") (codes "bad") league_file bad_log homeless answer refl refl (omega arith) (omega arith) says_league small (λ h. h) (λ h. h) given in
-    subst (λ (said : Result (List Step) logs.Fault). says_log said (IsVerdict homeless (rows_of homeless)) answer) bad-log told
+    let told = checked-at_log store None (codes "league") (codes "bad") league_file bad_log homeless answer refl refl (omega arith) (omega arith) says_league small (λ h. h) (λ h. h) given in
+    subst (λ (said : Result (List Step) logs.Fault). says_log said (IsVerdict homeless (rows_of homeless) None) answer) bad-log told

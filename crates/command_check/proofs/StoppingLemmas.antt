@@ -1,17 +1,21 @@
 -- A log that isn't judged to its end, since its steps take more than they may.
-use Rattle.std.proofs.Common.{◌≡◌, ℕ, suc, ◌+◌, ◌≤◌, List, [], ◌∷◌, ◌++◌, length, take, Option, false}
+use Rattle.std.proofs.Common.{◌≡◌, ℕ, suc, ◌+◌, ◌≤◌, List, [], ◌∷◌, ◌++◌, length, take, Option, Some, None, false}
 use Rattle.std.proofs.Common.{refl, sym, ap, subst, ◌∙◌, arith, length-append}
+use Rattle.std.specs.Prelude.{IfSome}
 use Rattle.std.specs.Io.KnownBytes.{Consumes}
 use Rattle.std.specs.List.{fold}
-use Rattle.std.proofs.lemmas.List.{take-append-le}
+use Rattle.std.proofs.lemmas.List.{append-nil, take-append-le}
 use Rattle.std.proofs.lemmas.List.Sums.{fold-append}
+use Rattle.rows.specs.Rows.{Row}
+use Rattle.refutation.specs.Logs.{Reading}
 use Rattle.refutation.specs.Steps.{Step}
-use Rattle.refutation.specs.Places.{Place}
+use Rattle.refutation.specs.Places.{Place, log_from, start}
 use Rattle.refutation.specs.Feeding.{ReadsOn}
-use Rattle.refutation_check.specs.Judged.{Judged, after_step}
-use Rattle.refutation_check.specs.Room.{has_room}
+use Rattle.refutation_check.specs.Judged.{Judged, after_step, no_step_of}
+use Rattle.refutation_check.specs.Room.{StopsInTime, has_room}
 use Rattle.refutation_check.specs.declared.fault.StepsFault.{StepsFault}
 use Rattle.refutation_check.specs.declared.fault.StepsFault.TheVariants as wants
+use Rattle.command_check.specs.Check.{LogPassesRoom}
 use Rattle.command_check.specs.declared.feeding.FeedFault.TheVariants.{Failed, Full, TooLong}
 use Rattle.command_check.specs.Feeding.{ChecksOn, IsUnderWay, feed_fault}
 use Rattle.command_check.specs.Stopping.{ChecksSome, PassesLimit}
@@ -25,11 +29,10 @@ take-past {X} (x ∷ xs) ys k =
     ap (λ (n : ℕ). take n (x ∷ xs ++ ys)) same ∙ ap (λ (l : List X). x ∷ l) (take-past xs ys k)
 
 -- some steps of a piece
-pub some-piece : (before now : Place) (none steps : List Step) (old new : Judged) (piece : List ℕ) → none ≡ []
-    → ReadsOn before none piece now steps
-    → ((k : ℕ) × (k ≤ length steps) × (new ≡ fold after_step old (take k steps))) → ChecksSome before old piece new
+pub some-piece : (limit : Option ℕ) (before now : Place) (none steps : List Step) (old new : Judged) (piece : List ℕ)
+    → none ≡ [] → ReadsOn before none piece now steps → StopsInTime limit old steps new → ChecksSome before old piece new
 unfolding checked-piece
-some-piece before now none steps old new piece empty reads some =
+some-piece limit before now none steps old new piece empty reads some =
     let whole = checked-piece before now none steps old (fold after_step old steps) piece empty reads refl in
     let same : steps ≡ whole.steps = reads.steps ∙ ap (λ (l : List Step). l ++ reads.added) empty in
     record {
@@ -73,6 +76,40 @@ under_way-passes known between left limit taken_before taken_between a b s t u m
       checked = some-then a b s t u so_far.bytes (take count room) m so_far.checked
           (subst (λ (l : List ℕ). ChecksSome b t l u) front some);
       passes = passes;
+    }
+
+-- ---- a log's file
+
+begins-with : (known left : Option (List ℕ)) (front : List ℕ) → Consumes known left front
+    → IfSome known (λ file. (rest : List ℕ) × (file ≡ front ++ rest))
+begins-with None left front consumed = tt
+begins-with (Some file) None front consumed = absurd consumed
+begins-with (Some file) (Some rest) front consumed = (rest, consumed)
+
+-- a checker that was given no step was given some first steps of the log, and they pass the limit
+pub log-passes : (known : Option (List ℕ)) (limit : Option ℕ) (rows : List Row) (vars : ℕ) (old new : Judged)
+    → old ≡ no_step_of rows vars → PassesLimit known limit start old new → LogPassesRoom known rows vars limit
+log-passes known limit rows vars old new none passed =
+    let some = passed.checked in
+    let steps : List Step = some.all.steps in
+    let behind : List Step = (log_from some.now []).steps in
+    let said : (log_from start passed.bytes).steps ≡ steps ++ behind =
+    ap (λ (b : List ℕ). (log_from start b).steps) (sym (append-nil passed.bytes))
+    ∙ ap (λ (r : Reading). r.steps) (some.all.read []) in
+    let front : take some.some (log_from start passed.bytes).steps ≡ take some.some steps =
+    ap (λ (l : List Step). take some.some l) said ∙ take-append-le some.some steps behind some.few in
+    let given : new ≡ fold after_step (no_step_of rows vars) (take some.some (log_from start passed.bytes).steps) =
+    some.judged ∙ ap (λ (s : Judged). fold after_step s (take some.some steps)) none
+    ∙ ap (λ (l : List Step). fold after_step (no_step_of rows vars) l) (sym front) in
+    record {
+      front = passed.bytes;
+      begins = begins-with known passed.left passed.bytes passed.front;
+      passes = (
+        some.some,
+        let count = ap (λ (l : List Step). length l) said in
+            let parts = length-append steps behind in omega (arith, some.few),
+        subst (λ (s : Judged). has_room limit s ≡ false) given passed.passes,
+      );
     }
 
 -- ---- a fault of the steps is none of the file

@@ -2,6 +2,8 @@
 pub mod Check
 -- Kept inside (laws, and how fields are seen):
 --
+-- A league that is read before the log:
+pub mod Reading
 -- A log that is checked while it is read:
 pub mod Feeding
 -- A log whose steps take more than they may:

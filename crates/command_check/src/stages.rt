@@ -1,5 +1,5 @@
 //! The stages of `check`.
-ghost use Rattle.std.specs.Prelude.{◌≡◌, ◌+◌, ◌<◌, ◌≤◌, ℕ, List, true, false, IfOk, IsErrOf, OnOk, codes, vec_len};
+ghost use Rattle.std.specs.Prelude.{◌≡◌, ◌+◌, ◌<◌, ◌≤◌, ℕ, List, Option, true, false, IfOk, IsErrOf, OnOk, codes, vec_len};
 ghost use Rattle.robin_io.specs.Outside.{store_between};
 ghost use Rattle.rows.specs.Rows.{Row};
 ghost use Rattle.encoding.specs.Encoding.{encoding_size, rows_of};
@@ -10,11 +10,13 @@ ghost use Rattle.refutation_check.specs.Room.{has_room};
 ghost use Rattle.answers.specs.Reply.{too_large};
 ghost use Rattle.answers.specs.SeenReply.{Answers, MatchStage};
 ghost use Rattle.answers.specs.Stages.{IsUnread, reads};
-ghost use Rattle.command_check.specs.Check.{IsVerdict, IsVerdictOver, checked, most_log_bytes};
-ghost use Rattle.command_check.specs.Check.{says_log};
+ghost use Rattle.command_check.specs.Check.{IsVerdict, IsVerdictWithin, LacksRoom, LogPassesRoom, checked};
+ghost use Rattle.command_check.specs.Check.{most_log_bytes, says_log};
 ghost use Rattle.command_check.specs.Feeding.{ChecksFile, ChecksOn};
+ghost use Rattle.command_check.specs.Reading.{ReadsLeague};
 ghost use Rattle.command_check.specs.Stopping.{PassesLimit};
 ghost use Rattle.encoding.specs.Limit.{most_terms};
+ghost use Rattle.encoding.specs.Variables.{var_count};
 
 use crate::feeding::{FeedFault, LOG_LIMIT, check_file};
 use crate::replies::verdict_reply;
@@ -96,9 +98,9 @@ fn verdict_on(
     checker: &Checker,
     steps: usize,
 ) -> Result<Reply, NoValue>
-    ensures verdict { (rows : List Row) (vars : ℕ) (bytes : List ℕ)
-        → ChecksOn start (no_step_of rows vars) bytes feed checker.now steps
-        → Answers (says_log (log_of bytes) (IsVerdictOver rows vars)) result }
+    ensures verdict { (rows : List Row) (vars : ℕ) (room : Option ℕ) (bytes : List ℕ)
+        → ChecksOn start (no_step_of rows vars) bytes feed checker.now steps → has_room room checker.now ≡ true
+        → Answers (says_log (log_of bytes) (IsVerdictWithin rows vars room)) result }
     ensures roomy { IsErrOf result NoValue.Room → ⊥ }
 {
     match feed.finish() {
@@ -125,10 +127,12 @@ pub fn judge_log<S: Shelf>(
 ) -> Result<Reply, NoValue>
     ensures answer { (rows : List Row) (vars : ℕ) → checker.old ≡ no_step_of rows vars
         → Answers (reads (store_between S.Shelf shelf.old shelf.new) (codes "log") name.now most_log_bytes 0
-        (λ bytes. says_log (log_of bytes) (IsVerdictOver rows vars))) result }
+        (λ bytes. says_log (log_of bytes) (IsVerdictWithin rows vars limit))) result }
     ensures within { OnOk result (has_room limit checker.old ≡ true → has_room limit checker.new ≡ true) }
     ensures full { IsErrOf result NoValue.Room →
         PassesLimit (S.contents shelf.old name.now) limit start checker.old checker.new }
+    ensures passes { IsErrOf result NoValue.Room → (rows : List Row) (vars : ℕ) → checker.old ≡ no_step_of rows vars
+        → LogPassesRoom (S.contents shelf.old name.now) rows vars limit }
     ensures taken { S.taken shelf.new ≤ S.taken shelf.old + (most_log_bytes + 1) }
     ensures contents { (n : List ℕ) → S.contents shelf.new n ≡ S.contents shelf.old n }
 {
@@ -146,7 +150,9 @@ fn check_log<S: Shelf>(
     limit: Option<u128>,
 ) -> Result<Reply, NoValue>
     ensures answer { Answers (reads (store_between S.Shelf shelf.old shelf.new) (codes "log") name.now most_log_bytes 0
-        (λ bytes. says_log (log_of bytes) (IsVerdict encoding.now (rows_of encoding.now)))) result }
+        (λ bytes. says_log (log_of bytes) (IsVerdict encoding.now (rows_of encoding.now) limit))) result }
+    ensures full { IsErrOf result NoValue.Room →
+        LogPassesRoom (S.contents shelf.old name.now) (rows_of encoding.now) (var_count encoding.now) limit }
     ensures taken { S.taken shelf.new ≤ S.taken shelf.old + (most_log_bytes + 1) }
     ensures contents { (n : List ℕ) → S.contents shelf.new n ≡ S.contents shelf.old n }
 {
@@ -154,13 +160,31 @@ fn check_log<S: Shelf>(
     judge_log(alloc, shelf, name, &mut checker, limit)
 }
 
-/// Checks the log of one file over the rows of the league of the other.
-///
-/// The log is read in pieces and its steps are judged as they come; it is read to its end before the answer. `judge_log`
-/// says what the limit does.
+/// Reads the league of a file, and makes its rows.
 ///
 /// # Errors
-/// Where a file is refused, with the reply that says why, and where memory or room is wanting.
+/// Where the file is refused, with the reply that says why, and where memory runs out.
+fn encoding_in<S: Shelf>(alloc: Global, shelf: &mut S, instance: &str) -> Result<Encoding, NoValue>
+    ensures stage { let store = store_between S.Shelf shelf.old shelf.new in MatchStage result
+        (ReadsLeague (store.contents instance.now) (S.taken shelf.old) (S.taken shelf.new))
+        (λ answer. (room : Option ℕ) (log : List ℕ) → checked store room instance.now log answer) }
+    ensures taken { S.taken shelf.new ≤ S.taken shelf.old + (INSTANCE_LIMIT + 1) }
+    ensures contents { (n : List ℕ) → S.contents shelf.new n ≡ S.contents shelf.old n }
+    ensures later { (n : List ℕ) → S.faults shelf.old n ≤ S.faults shelf.new n }
+{
+    let first = file(alloc, shelf, "instance", instance, INSTANCE_LIMIT)?;
+    let league = league_in(alloc, instance, &first)?;
+    encoding_of(alloc, &league)
+}
+
+/// Checks the log of one file over the rows of the league of the other.
+///
+/// The log is read in pieces and its steps are judged as they come; it is read to its end before the answer. Its steps
+/// may take no more bytes than the limit, where there is one.
+///
+/// # Errors
+/// Where a file is refused, with the reply that says why; `Room` only where some first steps of the log take more bytes
+/// than the limit; and where memory runs out.
 pub fn check<S: Shelf>(
     alloc: Global,
     shelf: &mut S,
@@ -168,13 +192,17 @@ pub fn check<S: Shelf>(
     log: &str,
     limit: Option<u128>,
 ) -> Result<Reply, NoValue>
-    ensures answer { Answers (checked (store_between S.Shelf shelf.old shelf.new)
+    ensures answer { Answers (checked (store_between S.Shelf shelf.old shelf.new) limit
         instance.now log.now) result }
+    ensures full { IsErrOf result NoValue.Room →
+        LacksRoom (store_between S.Shelf shelf.old shelf.new) limit instance.now log.now }
     ensures taken { S.taken shelf.new ≤ S.taken shelf.old + (INSTANCE_LIMIT + 1 + (most_log_bytes + 1)) }
     ensures contents { (n : List ℕ) → S.contents shelf.new n ≡ S.contents shelf.old n }
 {
-    let first = file(alloc, shelf, "instance", instance, INSTANCE_LIMIT)?;
-    let league = league_in(alloc, instance, &first)?;
-    let encoding = encoding_of(alloc, &league)?;
-    check_log(alloc, shelf, log, &encoding, limit)
+    match encoding_in(alloc, shelf, instance) {
+        Ok(encoding) => check_log(alloc, shelf, log, &encoding, limit),
+        Err(NoValue::Refused(refusal)) => Err(NoValue::Refused(refusal)),
+        // No step is judged so far, so that no room is wanting.
+        Err(NoValue::Memory | NoValue::Room) => Err(NoValue::Memory),
+    }
 }

@@ -43,7 +43,7 @@ writable-none = record {
 
 open-writable : (league : Instance) (limit : Option ℕ) (may_stop : Type 0) (log : List Step)
     → IsOpenLog league limit may_stop log → IsWritable log
-open-writable league limit may_stop log (inl is) = is.spent.writable
+open-writable league limit may_stop log (inl is) = is.spent.log.writable
 open-writable league limit may_stop log (inr untried) =
     subst (λ (steps : List Step). IsWritable steps) (sym untried.1) writable-none
 

@@ -1,7 +1,7 @@
 -- What follows from an answer of `prove`.
 use Rattle.std.proofs.Common.{◌∷◌, [], ◌≡◌, ◌⊎◌, ℕ, ◌+◌, List, length, Option, Some, Ok, codes, ap, true, inl, inr, sym, subst, ◌∙◌}
 use Rattle.std.proofs.Common.{Bool, false, if◌then◌else◌}
-use Rattle.std.specs.Prelude.{IfSome, IsTrue}
+use Rattle.std.specs.Prelude.{IsTrue}
 use Rattle.robin_io.specs.Outside.{Store}
 use Rattle.league.specs.Accepted.{IsAccepted}
 use Rattle.league.specs.Counts.{counts_of}
@@ -16,8 +16,8 @@ use Rattle.answers.specs.Stages.{NoneFails, Outcome, says, takes}
 use Rattle.answers.specs.declared.status.Status.{Status}
 use Rattle.answers.specs.declared.status.Status.TheVariants.{Yes, No, File, Spent, ReadFault, Better}
 use Rattle.answers.proofs.StageLemmas.{first-works, says-known, second-works, takes-known}
-use Rattle.command_prove.proofs.BoundAnswers.{few-small, few-yes}
-use Rattle.command_prove.specs.Prove.{IsBettered, IsLeast, IsShown, IsShownBy, IsSpentBelow}
+use Rattle.command_prove.proofs.BoundAnswers.{few-small, few-yes, reads-goes}
+use Rattle.command_prove.specs.Prove.{IsBettered, IsLeast, IsLeastByFloor, IsShown, IsShownBy, IsSpentBelow}
 use Rattle.command_prove.specs.Prove.{IsWellFormedCase, proved}
 use Rattle.command_prove.proofs.ProveStages.{solution_stages}
 
@@ -51,18 +51,6 @@ proved-well_formed store instance solution league games limits may_stop answer g
     (store.failed solution) shown answer pair.second pair.second_known pair.second_within (second-works store instance solution [] works) at_solution in
     says-known (codes "solution") (solution_of league.n (pieces pair.second)) games (IsShownBy league limits may_stop)
     answer pair.says_games at_games
-
--- a file that wasn't refused was read
-reads-goes : (which : List ℕ) (known : Option (List ℕ)) (limit : ℕ) (long failed : Type 0) (next : List ℕ → Outcome)
-    (answer : Answer) (file : List ℕ) → known ≡ Some file → (answer.status ≡ File → ⊥)
-    → (answer.status ≡ ReadFault → ⊥) → takes which known limit long failed next answer → next file answer
-reads-goes which known limit long failed next answer file is no_file no_fault (inl read) =
-    let same : read.0 ≡ file = subst (λ (k : Option (List ℕ)). IfSome k (λ bytes. read.0 ≡ bytes)) is read.1.same in
-    subst (λ (b : List ℕ). next b answer) same read.2
-reads-goes which known limit long failed next answer file is no_file no_fault (inr (inl h)) =
-    absurd (no_file (ap (λ (a : Answer). a.status) h.2))
-reads-goes which known limit long failed next answer file is no_file no_fault (inr (inr h)) =
-    absurd (no_fault (ap (λ (a : Answer). a.status) h.1))
 
 -- files that are known, where none is refused
 proved-goes : (store : Store)
@@ -99,13 +87,16 @@ proved-goes store instance solution first second league games limits may_stop an
 other : (a b : Status) (answer : Answer) → answer.status ≡ a → answer.status ≡ b → a ≡ b
 other a b answer first second = sym first ∙ second
 
+-- the season is least, by a search or by a floor
 pub shown-yes : {may_stop : Type 0} (league : Instance) (conflicts : Option ℕ) (games : List Game) (answer : Answer)
-    → IsShown league conflicts may_stop games answer → answer.status ≡ Yes → IsLeast league conflicts games answer
+    → IsShown league conflicts may_stop games answer → answer.status ≡ Yes
+    → IsLeast league conflicts games answer ⊎ IsLeastByFloor league conflicts games answer
 shown-yes league conflicts games answer (inl h) is = let same : No ≡ Yes = other No Yes answer h.status is in cc
-shown-yes league conflicts games answer (inr (inl h)) is = h
-shown-yes league conflicts games answer (inr (inr (inl h))) is =
+shown-yes league conflicts games answer (inr (inl h)) is = inl h
+shown-yes league conflicts games answer (inr (inr (inl h))) is = inr h
+shown-yes league conflicts games answer (inr (inr (inr (inl h)))) is =
     let same : Better ≡ Yes = other Better Yes answer h.status is in cc
-shown-yes league conflicts games answer (inr (inr (inr h))) is =
+shown-yes league conflicts games answer (inr (inr (inr (inr h)))) is =
     let same : Spent ≡ Yes = other Spent Yes answer h.status is in cc
 
 pub shown-better : {may_stop : Type 0} (league : Instance) (conflicts : Option ℕ) (games : List Game) (answer : Answer)
@@ -114,8 +105,10 @@ shown-better league conflicts games answer (inl h) is =
     let same : No ≡ Better = other No Better answer h.status is in cc
 shown-better league conflicts games answer (inr (inl h)) is =
     let same : Yes ≡ Better = other Yes Better answer h.status is in cc
-shown-better league conflicts games answer (inr (inr (inl h))) is = h
-shown-better league conflicts games answer (inr (inr (inr h))) is =
+shown-better league conflicts games answer (inr (inr (inl h))) is =
+    let same : Yes ≡ Better = other Yes Better answer h.status is in cc
+shown-better league conflicts games answer (inr (inr (inr (inl h)))) is = h
+shown-better league conflicts games answer (inr (inr (inr (inr h)))) is =
     let same : Spent ≡ Better = other Spent Better answer h.status is in cc
 
 no-feasible : (feasible : Bool) (status : Status) → status ≡ No → status ≡ (if feasible then Yes else No)
@@ -131,23 +124,27 @@ shown-no league conflicts games answer (inl h) is accepted =
 shown-no league conflicts games answer (inr (inl h)) is accepted =
     let same : Yes ≡ No = other Yes No answer h.status is in cc
 shown-no league conflicts games answer (inr (inr (inl h))) is accepted =
+    let same : Yes ≡ No = other Yes No answer h.status is in cc
+shown-no league conflicts games answer (inr (inr (inr (inl h)))) is accepted =
     let same : Better ≡ No = other Better No answer h.status is in cc
-shown-no league conflicts games answer (inr (inr (inr h))) is accepted =
+shown-no league conflicts games answer (inr (inr (inr (inr h)))) is accepted =
     let same : Spent ≡ No = other Spent No answer h.status is in cc
 
--- what is left of four cases
-fourth : {A B C D : Type 0} → A ⊎ (B ⊎ (C ⊎ D)) → (A → ⊥) → (B → ⊥) → (C → ⊥) → D
-fourth (inl h) a b c = absurd (a h)
-fourth (inr (inl h)) a b c = absurd (b h)
-fourth (inr (inr (inl h))) a b c = absurd (c h)
-fourth (inr (inr (inr h))) a b c = h
+-- what is left of five cases
+fifth : {A B C D E : Type 0} → A ⊎ (B ⊎ (C ⊎ (D ⊎ E))) → (A → ⊥) → (B → ⊥) → (C → ⊥) → (D → ⊥) → E
+fifth (inl h) a b c d = absurd (a h)
+fifth (inr (inl h)) a b c d = absurd (b h)
+fifth (inr (inr (inl h))) a b c d = absurd (c h)
+fifth (inr (inr (inr (inl h)))) a b c d = absurd (d h)
+fifth (inr (inr (inr (inr h)))) a b c d = h
 
 shown-spent : {may_stop : Type 0} (league : Instance) (conflicts : Option ℕ) (games : List Game) (answer : Answer)
     → IsShown league conflicts may_stop games answer → answer.status ≡ Spent
     → IsSpentBelow league conflicts may_stop games answer
 shown-spent league conflicts games answer shown is =
-    fourth shown
+    fifth shown
     (λ h. let same : No ≡ Spent = other No Spent answer h.status is in cc)
+    (λ h. let same : Yes ≡ Spent = other Yes Spent answer h.status is in cc)
     (λ h. let same : Yes ≡ Spent = other Yes Spent answer h.status is in cc)
     (λ h. let same : Better ≡ Spent = other Better Spent answer h.status is in cc)
 
@@ -156,7 +153,8 @@ pub shown-refused : {may_stop : Type 0} (league : Instance) (conflicts : Option 
 shown-refused league conflicts games answer fails (inl h) = h.status
 shown-refused league conflicts games answer fails (inr (inl h)) = absurd (fails h.accepted)
 shown-refused league conflicts games answer fails (inr (inr (inl h))) = absurd (fails h.accepted)
-shown-refused league conflicts games answer fails (inr (inr (inr h))) = absurd (fails h.accepted)
+shown-refused league conflicts games answer fails (inr (inr (inr (inl h)))) = absurd (fails h.accepted)
+shown-refused league conflicts games answer fails (inr (inr (inr (inr h)))) = absurd (fails h.accepted)
 
 -- ---- files that are known
 
@@ -182,7 +180,8 @@ spent-no_fault answer is refused = let same : Spent ≡ ReadFault = other Spent 
 -- schedule, the league accepts that; where the budget is spent, no schedule costs less than a floor
 pub record ShowsAs (league : Instance) (limits : Option ℕ → Type 0) (may_stop : Type 0) (games : List Game)
     (answer : Answer) : Type 0 where
-  pub least : answer.status ≡ Yes → (conflicts : Option ℕ) × IsLeast league conflicts games answer
+  pub least : answer.status ≡ Yes
+      → (conflicts : Option ℕ) × (IsLeast league conflicts games answer ⊎ IsLeastByFloor league conflicts games answer)
   pub better : answer.status ≡ Better → IsBettered league games answer
   pub spent : answer.status ≡ Spent → (conflicts : Option ℕ) × IsSpentBelow league conflicts may_stop games answer
 

@@ -1,6 +1,6 @@
 -- What is shown of a schedule, answered.
 use Rattle.std.proofs.Common.{◌≡◌, ℕ, ◌-◌, ◌<◌, ◌≤◌, ◌==◌, Bool, true, false, if◌then◌else◌, List, Option, Some}
-use Rattle.std.proofs.Common.{Result, Ok, Err, refl, arith, ap, subst, ◌∙◌, inl, inr}
+use Rattle.std.proofs.Common.{Result, Ok, Err, refl, arith, ap, subst, sym, ◌∙◌, inl, inr}
 use Rattle.std.specs.Prelude.{IfOk, IsTrue}
 use Rattle.std.proofs.lemmas.Bool.Decides.{nat_tests}
 use Rattle.league.specs.Accepted.{IsAccepted, objective}
@@ -17,10 +17,13 @@ use Rattle.answers.specs.Reply.{Answer}
 use Rattle.answers.specs.SeenReply.{answer_of}
 use Rattle.answers.specs.declared.reply.Reply.{Reply}
 use Rattle.answers.specs.declared.status.Status.{Status}
+use Rattle.answers.specs.declared.status.Status.TheVariants as statuses
 use Rattle.answers.specs.declared.status.Status.TheVariants.{Yes, No}
-use Rattle.refutation.specs.Logs.{Fault}
+use Rattle.refutation.specs.Logs.{Fault, log_of}
 use Rattle.refutation.specs.Steps.{Step}
+use Rattle.refutation.specs.Texts.{log_text}
 use Rattle.refutation.specs.Verdict.{verdict_of}
+use Rattle.refutation.specs.Writable.{HasShortLines}
 use Rattle.refutation.specs.declared.verdict.Verdict.TheVariants.{Accepted}
 use Rattle.clause_search.specs.Answers.{Refutes}
 use Rattle.bound_rows.specs.BoundRows.{bound_rows, bound_vars}
@@ -35,7 +38,7 @@ use Rattle.command_prove.specs.Bound.{bound_verdict}
 use Rattle.floors.specs.Floors.{IsFloor}
 use Rattle.floors.specs.declared.floor.Floor.{Floor}
 use Rattle.command_prove.specs.Prove.{IsCertified, IsShown, IsShownBy, spent_text}
-use Rattle.command_prove.specs.Told.{CanBeWritten, Tells}
+use Rattle.command_prove.specs.Told.{CanBeWritten, Tells, TellsBeside, TellsFloored, TellsLeast}
 
 -- ---- what a test says
 
@@ -94,6 +97,48 @@ floor-certified league floor found reads_back = record {
   reads_back = reads_back;
 }
 
+-- a floor that isn't below the objective is the objective, and else the log is written too
+shown-floored : {may_stop : Type 0} (league : Instance) (limit : Option ℕ) (games : List Game) (costs : ℕ)
+    (floor : Floor) (log : List Step) (answer : Answer) → costs ≡ objective league (counts_of games)
+    → IsAccepted league (counts_of games) → proofs.IsSpentBelow league (counts_of games) limit may_stop log
+    → IsFloor league floor → TellsBeside costs floor log answer → IsShown league limit may_stop games answer
+shown-floored league limit games costs floor log answer same accepted is found (inl told) =
+    let most : floor.bound ≤ objective league (counts_of games) = found.least (counts_of games) accepted in
+    let least : costs ≤ floor.bound = told.0 in
+    let bound_is : floor.bound ≡ objective league (counts_of games) = omega (arith, most, least, same) in
+    let read : certificate_of (certificate_text floor.bound floor.log) ≡ certificate_said floor.log floor.bound =
+    ap (λ (text : List ℕ). certificate_of text) (sym told.1.text) ∙ told.1.reads_back found.short found.nothing in
+    inr (inr (inl (record {
+      steps = log;
+      floor = floor.log;
+      accepted = accepted;
+      some = is.some;
+      budget = is.spent.limited;
+      spent = is.spent.spent;
+      few = is.spent.few;
+      certified =
+          subst (λ (c : ℕ). IsCertified league c floor.log) bound_is (floor-certified league floor found read);
+      status = told.1.status;
+      text = told.1.text ∙ ap (λ (c : ℕ). certificate_text c floor.log) bound_is;
+    })))
+shown-floored league limit games costs floor log answer same accepted is found (inr told) =
+    inr (inr (inr (inr (record {
+      steps = log;
+      bound = floor.bound;
+      floor = floor.log;
+      accepted = accepted;
+      some = is.some;
+      settled = is.settled;
+      budget = is.spent.limited;
+      spent = is.spent.spent;
+      few = is.spent.few;
+      below = subst (λ (c : ℕ). floor.bound < c) same told.0;
+      certified = floor-certified league floor found told.1.floor_reads_back;
+      status = told.1.status;
+      text = told.1.text ∙ ap (λ (c : ℕ). spent_text c floor.bound floor.log log) same;
+      reads_back = told.1.reads_back;
+    }))))
+
 pub shown-told : {may_stop : Type 0} (league : Instance) (limit : Option ℕ) (games : List Game) (costs : ℕ)
     (proved : Proved) (answer : Answer) → costs ≡ objective league (counts_of games) → IsTeamCount league.n
     → IsAccepted league (counts_of games) → proofs.IsProved league (counts_of games) limit may_stop proved
@@ -110,7 +155,7 @@ shown-told league limit games costs (Least cost log) answer same teams accepted 
   text = told.text ∙ ap (λ (c : ℕ). certificate_text c log) is.cost;
   reads_back = λ short. told.reads_back short is.nothing ∙ ap (certificate_said log) is.cost;
 }))
-shown-told league limit games costs (Better better cost) answer same teams accepted is told = inr (inr (inl (record {
+shown-told league limit games costs (Better better cost) answer same teams accepted is told = inr (inr (inr (inl (record {
   better = better;
   accepted = accepted;
   better_accepted = is.accepted;
@@ -122,22 +167,9 @@ shown-told league limit games costs (Better better cost) answer same teams accep
   reads_back = ap (λ (written : List ℕ). solution_of league.n (pieces written)) told.1
       ∙ solution-reads_back league.n better (Some (0, cost)) teams.at_most
       (round_robin-few league.n league.phased better teams is.fit is.accepted.round_robin) is.fit;
-})))
-shown-told league limit games costs (Spent log) answer same teams accepted is told = inr (inr (inr (record {
-  steps = log;
-  bound = told.0.bound;
-  floor = told.0.log;
-  accepted = accepted;
-  some = is.some;
-  settled = is.settled;
-  budget = is.spent.limited;
-  spent = is.spent.spent;
-  few = is.spent.few;
-  certified = floor-certified league told.0 told.1 told.2.floor_reads_back;
-  status = told.2.status;
-  text = told.2.text ∙ ap (λ (c : ℕ). spent_text c told.0.bound told.0.log log) same;
-  reads_back = told.2.reads_back;
-})))
+}))))
+shown-told league limit games costs (Spent log) answer same teams accepted is told =
+    shown-floored league limit games costs told.0 log answer same accepted is told.1 told.2
 
 pub proved-written : (league : Instance) (m : Counts) (limit : Option ℕ) (may_stop : Type 0) (proved : Proved)
     → proofs.IsProved league m limit may_stop proved → CanBeWritten proved
@@ -146,6 +178,32 @@ proved-written league m limit may_stop (Better better cost) is = tt
 proved-written league m limit may_stop (Spent log) is = is.named
 
 -- ---- the same of a reply, unless memory ran out
+
+-- what is written beside a floor that is no less than the schedule's objective, and beside one that is
+pub told-least : {E : Type 0} (league : Instance) (costs : ℕ) (floor : Floor) (log : List Step)
+    (result : Result Reply E) → IsFloor league floor → costs ≤ floor.bound
+    → IfOk result (λ reply. TellsLeast floor.bound floor.log (answer_of reply))
+    → IfOk result (λ reply. TellsFloored league costs log (answer_of reply))
+told-least {E} league costs floor log (Ok reply) found least told = (floor, found, inl (least, told))
+told-least {E} league costs floor log (Err error) found least told = tt
+
+pub told-spent : {E : Type 0} (league : Instance) (costs : ℕ) (floor : Floor) (log : List Step)
+    (result : Result Reply E) → IsFloor league floor → floor.bound < costs
+    → IfOk result (λ reply. (answer_of reply).status ≡ statuses.Spent)
+    → IfOk result (λ reply. (answer_of reply).text ≡ spent_text costs floor.bound floor.log log)
+    → IfOk result (λ _. certificate_of (certificate_text floor.bound floor.log)
+    ≡ Ok (record { bound = floor.bound; log = floor.log }))
+    → IfOk result (λ _. HasShortLines log → log_of (log_text log) ≡ Ok log)
+    → IfOk result (λ reply. TellsFloored league costs log (answer_of reply))
+told-spent {E} league costs floor log (Ok reply) found below status text floor_reads_back reads_back = (
+  floor,
+  found,
+  inr (
+    below,
+    record { status = status; text = text; floor_reads_back = floor_reads_back; reads_back = reads_back },
+  ),
+)
+told-spent {E} league costs floor log (Err error) found below status text floor_reads_back reads_back = tt
 
 pub replied-rejected : {E : Type 0} (league : Instance) (conflicts : Option ℕ) (may_stop : Type 0)
     (games : List Game) (result : Result Reply E) → (IsAccepted league (counts_of games) → ⊥)

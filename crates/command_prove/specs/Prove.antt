@@ -51,6 +51,31 @@ pub record IsLeast (league : Instance) (conflicts : Option ℕ) (games : List Ga
   pub reads_back : HasShortLines steps
       → certificate_of answer.text ≡ Ok (record { bound = objective league (counts_of games); log = steps })
 
+-- A floor: no schedule that the league accepts has an objective below it. The certificate that says so is accepted by
+-- the verdict of `bound`, and its text reads back as it.
+pub record IsCertified (league : Instance) (bound : ℕ) (steps : List Step) : Type 0 where
+  pub least : IsLowerBound league bound
+  pub proves : bound_verdict league bound steps ≡ Accepted
+  pub reads_back : certificate_of (certificate_text bound steps) ≡ Ok (record { bound = bound; log = steps })
+
+-- No schedule that the league accepts has a lower objective, as a floor says: a search with a budget spent it over the
+-- bound rows of one less than the objective, and the floor that was found then is the objective. A certificate of the
+-- floor, which is accepted, is written alone, and reads back as it. Its log may have any number of steps, since no search
+-- makes it. Without a budget there is no such answer.
+pub record IsLeastByFloor (league : Instance) (conflicts : Option ℕ) (games : List Game) (answer : Answer) : Type 0
+  where
+    pub steps : List Step
+    pub floor : List Step
+    pub accepted : IsAccepted league (counts_of games)
+    pub some : 1 ≤ objective league (counts_of games)
+    pub budget : conflicts ≡ Some (length steps)
+    pub spent : IsSpent (length steps) (bound_rows league (objective league (counts_of games) - 1)) (bound_vars league)
+        steps
+    pub few : length steps < 3 ^ bound_vars league
+    pub certified : IsCertified league (objective league (counts_of games)) floor
+    pub status : answer.status ≡ Yes
+    pub text : answer.text ≡ certificate_text (objective league (counts_of games)) floor
+
 -- A schedule of games of the league, which accepts it, in order, with a lower objective, is written as a solution file,
 -- with it, and reads back as these games.
 pub record IsBettered (league : Instance) (games : List Game) (answer : Answer) : Type 0 where
@@ -72,17 +97,10 @@ objective_line cost = codes "objective " ++ (decimal cost ++ codes "\n")
 abbrev pub spent_text : ℕ → ℕ → List Step → List Step → List ℕ
 spent_text cost bound floor steps = objective_line cost ++ certificate_text bound floor ++ log_text steps
 
--- A floor: no schedule that the league accepts has an objective below it. The certificate that says so is accepted by
--- the verdict of `bound`, and its text reads back as it.
-pub record IsCertified (league : Instance) (bound : ℕ) (steps : List Step) : Type 0 where
-  pub least : IsLowerBound league bound
-  pub proves : bound_verdict league bound steps ≡ Accepted
-  pub reads_back : certificate_of (certificate_text bound steps) ≡ Ok (record { bound = bound; log = steps })
-
 -- No single legal move betters the schedule, where nothing may stop the run. Behind the schedule's objective a
--- certificate of a floor is written, and then a log that is spent at the budget over the bound rows of one less than
--- the objective. If no line of the log passes the limit of a line, its text reads back as the log. The budget is below
--- 3 to the number of variables, so a greater budget, or none, is never spent.
+-- certificate of a floor below it is written, and then a log that is spent at the budget over the bound rows of one less
+-- than the objective. If no line of the log passes the limit of a line, its text reads back as the log. The budget is
+-- below 3 to the number of variables, so a greater budget, or none, is never spent.
 pub record IsSpentBelow (league : Instance) (conflicts : Option ℕ) (may_stop : Type 0) (games : List Game)
     (answer : Answer) : Type 0
   where
@@ -96,6 +114,7 @@ pub record IsSpentBelow (league : Instance) (conflicts : Option ℕ) (may_stop :
     pub spent : IsSpent (length steps) (bound_rows league (objective league (counts_of games) - 1)) (bound_vars league)
         steps
     pub few : length steps < 3 ^ bound_vars league
+    pub below : bound < objective league (counts_of games)
     pub certified : IsCertified league bound floor
     pub status : answer.status ≡ Spent
     pub text : answer.text ≡ spent_text (objective league (counts_of games)) bound floor steps
@@ -107,7 +126,8 @@ abbrev pub IsShown : Instance → Option ℕ → Type 0 → List Game → Outcom
 IsShown league conflicts may_stop games answer =
     IsRejected league games answer
     ⊎ (IsLeast league conflicts games answer
-    ⊎ (IsBettered league games answer ⊎ IsSpentBelow league conflicts may_stop games answer))
+    ⊎ (IsLeastByFloor league conflicts games answer
+    ⊎ (IsBettered league games answer ⊎ IsSpentBelow league conflicts may_stop games answer)))
 
 -- that, by a search that keeps to one of these limits
 abbrev pub IsShownBy : Instance → (Option ℕ → Type 0) → Type 0 → List Game → Outcome

@@ -1,5 +1,5 @@
 -- What is written of what is shown of an accepted schedule.
-use Rattle.std.specs.Prelude.{◌≡◌, ℕ, List, [], Some, Ok}
+use Rattle.std.specs.Prelude.{◌≡◌, ◌<◌, ◌≤◌, ◌⊎◌, ℕ, List, [], Some, Ok}
 use Rattle.std.specs.List.{All}
 use Rattle.robinx_form.specs.Texts.{solution_text}
 use Rattle.answers.specs.Reply.{Answer}
@@ -37,10 +37,20 @@ pub record TellsSpent (cost : ℕ) (floor : Floor) (steps : List Step) (answer :
       ≡ Ok (record { bound = floor.bound; log = floor.log })
   pub reads_back : HasShortLines steps → log_of (log_text steps) ≡ Ok steps
 
+-- what is written beside a floor: the floor's certificate alone where it is no less than the schedule's objective, and
+-- else all three
+abbrev pub TellsBeside : ℕ → Floor → List Step → Answer → Type 0
+TellsBeside cost floor steps answer =
+    ((cost ≤ floor.bound) × TellsLeast floor.bound floor.log answer)
+    ⊎ ((floor.bound < cost) × TellsSpent cost floor steps answer)
+
+-- what is written of a log that is spent
+abbrev pub TellsFloored : Instance → ℕ → List Step → Answer → Type 0
+TellsFloored league cost steps answer = (floor : Floor) × IsFloor league floor × TellsBeside cost floor steps answer
+
 -- what is written of each, beside the schedule's objective
 abbrev pub Tells : Instance → ℕ → Proved → Answer → Type 0
 Tells league cost (Least objective log) answer = TellsLeast objective log answer
 Tells league cost (Better games objective) answer =
     (answer.status ≡ statuses.Better) × (answer.text ≡ solution_text games (Some (0, objective)))
-Tells league cost (Spent log) answer =
-    (floor : Floor) × IsFloor league floor × TellsSpent cost floor log answer
+Tells league cost (Spent log) answer = TellsFloored league cost log answer

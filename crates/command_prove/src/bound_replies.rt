@@ -1,10 +1,10 @@
 //! The answers of `bound`.
-ghost use Rattle.std.specs.Prelude.{◌≡◌, IfOk, Ok};
+ghost use Rattle.std.specs.Prelude.{◌≡◌, IfOk, IsErrOf, OnOk, Ok};
 ghost use Rattle.answers.specs.SeenReply.{answer_of};
 ghost use Rattle.bound_rows.specs.Faithful.{IsLowerBound};
 ghost use Rattle.bound_rows.specs.Bounded.{IsCounted};
 ghost use Rattle.command_prove.specs.Bound as texts;
-ghost use Rattle.command_prove.specs.Bound.{IsBoundVerdict, bound_verdict};
+ghost use Rattle.command_prove.specs.Bound.{IsBoundVerdict, IsPastRoom, IsWithinRoom, bound_verdict};
 
 use crate::check_bound;
 use answers::{Reply, Status};
@@ -19,7 +19,7 @@ use std::alloc::{AllocError, Global};
 /// the bound.
 ///
 /// # Errors
-/// Only where memory or room is wanting.
+/// `Full` only where some first steps take more bytes than the limit, and `Mem` where memory runs out.
 fn verdict_on(
     alloc: Global,
     league: &League,
@@ -31,19 +31,20 @@ fn verdict_on(
     ensures verdict { IfOk result (λ verdict.
         verdict ≡ bound_verdict league.now certificate.now.bound certificate.now.log) }
     ensures holds { result ≡ Ok Verdict.Accepted → IsLowerBound league.now certificate.now.bound }
+    ensures within { OnOk result (IsWithinRoom league.now limit certificate.now) }
+    ensures full { IsErrOf result StepsFault.Full → IsPastRoom league.now limit certificate.now }
 {
     if certificate.bound == 0 {
         return Ok(Verdict::Accepted);
     }
-    let verdict = check_bound(
+    check_bound(
         alloc,
         league,
         certificate.bound,
         &certificate.log,
         terms,
         limit,
-    )?;
-    Ok(verdict)
+    )
 }
 
 /// The answer to a certificate of `steps` steps that is accepted.
@@ -77,7 +78,7 @@ fn bound_reply(
 /// The answer to a certificate of a league.
 ///
 /// # Errors
-/// Only where memory or room is wanting.
+/// `Full` only where some first steps take more bytes than the limit, and `Mem` where memory runs out.
 pub(crate) fn judge(
     alloc: Global,
     league: &League,
@@ -86,7 +87,8 @@ pub(crate) fn judge(
     limit: Option<u128>,
 ) -> Result<Reply, StepsFault>
     requires { IsCounted league.now terms }
-    ensures { IfOk result (λ reply. IsBoundVerdict league.now certificate.now (answer_of reply)) }
+    ensures verdict { IfOk result (λ reply. IsBoundVerdict league.now limit certificate.now (answer_of reply)) }
+    ensures full { IsErrOf result StepsFault.Full → IsPastRoom league.now limit certificate.now }
 {
     let verdict = verdict_on(alloc, league, certificate, terms, limit)?;
     let reply = bound_reply(alloc, certificate.bound, certificate.log.len(), verdict)?;

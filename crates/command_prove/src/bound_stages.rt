@@ -1,12 +1,12 @@
 //! The stages of `bound`.
-ghost use Rattle.std.specs.Prelude.{◌≡◌, ◌≤◌, ◌+◌, ◌<◌, ℕ, List, Ok};
+ghost use Rattle.std.specs.Prelude.{◌≡◌, ◌≤◌, ◌+◌, ◌<◌, ℕ, List, Option, IsErrOf, Ok};
 ghost use Rattle.robin_io.specs.Outside.{store_between};
 ghost use Rattle.answers.specs.Reply.{too_large};
 ghost use Rattle.answers.specs.SeenReply.{Answers, MatchStage};
 ghost use Rattle.bound_rows.specs.BoundRows.{bound_size};
 ghost use Rattle.bound_rows.specs.Bounded.{IsCounted};
 ghost use Rattle.bounds.specs.Certificates.{certificate_of};
-ghost use Rattle.command_prove.specs.Bound.{IsBoundVerdict, bounded, says_certificate};
+ghost use Rattle.command_prove.specs.Bound.{IsBoundVerdict, IsPastRoom, LacksRoom, ReadCertificate, bounded};
 ghost use Rattle.command_prove.specs.Faults.{IsMalformed};
 ghost use Rattle.encoding.specs.Limit.{most_terms};
 
@@ -55,20 +55,51 @@ fn certificate_in(alloc: Global, name: &str, bytes: &[u8]) -> Result<Certificate
     }
 }
 
-/// Judges the certificate that a text writes.
-fn judge_text(
-    alloc: Global,
-    name: &str,
-    bytes: &[u8],
-    league: &League,
+/// What two files claim: no schedule that the league accepts costs less than the bound of the certificate.
+#[derive(Drop)]
+struct Claim {
+    league: League,
+    /// How many terms the league's bound rows have.
     terms: u64,
-    limit: Option<u128>,
-) -> Result<Reply, NoValue>
-    requires { IsCounted league.now terms }
-    ensures { Answers (says_certificate (certificate_of bytes.now) (IsBoundVerdict league.now)) result }
+    certificate: Certificate,
+}
+
+/// Reads the league of one file and the certificate of the other.
+///
+/// # Errors
+/// Where a file is refused, with the reply that says why, and where memory runs out.
+fn claim_in<S: Shelf>(
+    alloc: Global,
+    shelf: &mut S,
+    instance: &str,
+    log: &str,
+) -> Result<Claim, NoValue>
+    ensures stage { let store = store_between S.Shelf shelf.old shelf.new in MatchStage result
+        (λ claim. ReadCertificate store instance.now log.now claim.league claim.certificate
+        × IsCounted claim.league claim.terms)
+        (λ answer. (room : Option ℕ) → bounded store room instance.now log.now answer) }
+    ensures taken { S.taken shelf.new ≤ S.taken shelf.old + (INSTANCE_LIMIT + 1 + (LOG_LIMIT + 1)) }
+    ensures contents { (n : List ℕ) → S.contents shelf.new n ≡ S.contents shelf.old n }
 {
-    let certificate = certificate_in(alloc, name, bytes)?;
-    match judge(alloc, league, &certificate, terms, limit) {
+    let first = file(alloc, shelf, "instance", instance, INSTANCE_LIMIT)?;
+    let league = league_in(alloc, instance, &first)?;
+    let terms = few_terms(alloc, &league)?;
+    let second = file(alloc, shelf, "log", log, LOG_LIMIT)?;
+    let certificate = certificate_in(alloc, log, &second)?;
+    Ok(Claim {
+        league,
+        terms,
+        certificate,
+    })
+}
+
+/// Judges the certificate of a claim.
+fn judge_claim(alloc: Global, claim: &Claim, limit: Option<u128>) -> Result<Reply, NoValue>
+    requires { IsCounted claim.now.league claim.now.terms }
+    ensures answer { Answers (IsBoundVerdict claim.now.league limit claim.now.certificate) result }
+    ensures full { IsErrOf result NoValue.Room → IsPastRoom claim.now.league limit claim.now.certificate }
+{
+    match judge(alloc, &claim.league, &claim.certificate, claim.terms, limit) {
         Ok(reply) => Ok(reply),
         Err(StepsFault::Full) => Err(NoValue::Room),
         Err(StepsFault::Mem) => Err(NoValue::Memory),
@@ -79,7 +110,8 @@ fn judge_text(
 /// as the limit says, as `check_bound` counts them.
 ///
 /// # Errors
-/// Where a file is refused, with the reply that says why, and where memory or room is wanting.
+/// Where a file is refused, with the reply that says why; `Room` only where some first steps take more bytes than the
+/// limit; and where memory runs out.
 pub fn bound_file<S: Shelf>(
     alloc: Global,
     shelf: &mut S,
@@ -87,14 +119,17 @@ pub fn bound_file<S: Shelf>(
     log: &str,
     limit: Option<u128>,
 ) -> Result<Reply, NoValue>
-    ensures answer { Answers (bounded (store_between S.Shelf shelf.old shelf.new)
+    ensures answer { Answers (bounded (store_between S.Shelf shelf.old shelf.new) limit
         instance.now log.now) result }
+    ensures full { IsErrOf result NoValue.Room →
+        LacksRoom (store_between S.Shelf shelf.old shelf.new) limit instance.now log.now }
     ensures taken { S.taken shelf.new ≤ S.taken shelf.old + (INSTANCE_LIMIT + 1 + (LOG_LIMIT + 1)) }
     ensures contents { (n : List ℕ) → S.contents shelf.new n ≡ S.contents shelf.old n }
 {
-    let first = file(alloc, shelf, "instance", instance, INSTANCE_LIMIT)?;
-    let league = league_in(alloc, instance, &first)?;
-    let terms = few_terms(alloc, &league)?;
-    let second = file(alloc, shelf, "log", log, LOG_LIMIT)?;
-    judge_text(alloc, log, &second, &league, terms, limit)
+    match claim_in(alloc, shelf, instance, log) {
+        Ok(claim) => judge_claim(alloc, &claim, limit),
+        Err(NoValue::Refused(refusal)) => Err(NoValue::Refused(refusal)),
+        // No step is judged so far, so that no room is wanting.
+        Err(NoValue::Memory | NoValue::Room) => Err(NoValue::Memory),
+    }
 }

@@ -12,7 +12,7 @@ ghost use Rattle.bounds.specs.Certificates as certificates;
 ghost use Rattle.refutation.specs.Logs.{log_of};
 ghost use Rattle.refutation.specs.Texts as logs;
 ghost use Rattle.command_prove.specs.Prove.{spent_text};
-ghost use Rattle.command_prove.specs.Told.{CanBeWritten, Tells, TellsLeast};
+ghost use Rattle.command_prove.specs.Told.{CanBeWritten, Tells, TellsFloored, TellsLeast};
 
 use answers::{Reply, Status};
 use bounds::{Counted, Proved, certificate_text};
@@ -75,7 +75,27 @@ fn spent_reply(alloc: Global, cost: u128, floor: &Floor, log: &Log) -> Result<Re
     })
 }
 
-/// What is shown of an accepted schedule. If the budget is spent, the league's floor is found beside it.
+/// What is written where the budget is spent: the league's floor is found. Its certificate is written alone if it shows
+/// that the schedule's objective is the least, and else between this and the log.
+fn floored_reply(
+    alloc: Global,
+    league: &League,
+    counted: Counted,
+    log: &Log,
+) -> Result<Reply, AllocError>
+    requires counted { IsCounted league.now counted.terms }
+    requires log { All NamesRows log.now }
+    ensures { IfOk result (λ reply. TellsFloored league.now counted.cost log.now (answer_of reply)) }
+{
+    let floor = floor_of(alloc, league, counted.terms)?;
+    // No accepted schedule costs less than the floor: one that costs no more costs just as much.
+    if counted.cost <= u128::from(floor.bound) {
+        return least_reply(alloc, floor.bound, &floor.log);
+    }
+    spent_reply(alloc, counted.cost, &floor, log)
+}
+
+/// What is shown of an accepted schedule.
 pub(crate) fn proof_reply(
     alloc: Global,
     league: &League,
@@ -92,10 +112,6 @@ pub(crate) fn proof_reply(
             schedule,
             objective,
         } => better_reply(alloc, schedule, *objective),
-        Proved::Spent { log } => {
-            let floor = floor_of(alloc, league, counted.terms)?;
-            let reply = spent_reply(alloc, counted.cost, &floor, log)?;
-            Ok(reply)
-        }
+        Proved::Spent { log } => floored_reply(alloc, league, counted, log),
     }
 }

@@ -19,8 +19,11 @@ use Rattle.answers.proofs.StageLemmas.{first-works, says-known, second-works, ta
 use Rattle.refutation.specs.Logs.{Fault, log_of}
 use Rattle.refutation.specs.Steps.{Step}
 use Rattle.command_check.specs.Check.{most_log_bytes, says_log}
-use Rattle.command_check.proofs.AnswerLemmas.{said-known}
-use Rattle.resume_rows.specs.Kept.{resume_size}
+use Rattle.command_check.proofs.AnswerLemmas.{IsAnswered, answered-as, log-answered, reads-answered, said-known, same_bytes}
+use Rattle.command_check.proofs.AnswerLemmas.{same_value, says-answered}
+use Rattle.encoding_base.specs.Variables.{var_count}
+use Rattle.refutation_check.specs.Room.{KeepsRoom}
+use Rattle.resume_rows.specs.Kept.{resume_rows, resume_size}
 use Rattle.resume_rows.specs.Resumable.{NoneResumes}
 use Rattle.command_resume.specs.Audited.{IsVerdict, IsWellFormedAudit, audited}
 use Rattle.command_resume.specs.Near.{IsNear, IsNearBy, IsNearSeason, neared}
@@ -83,39 +86,21 @@ resumed-well_formed store instance solution k limits league played answer good w
     (λ season. IsFoundBy season.league season.played k limits) league played answer good
     (first-works store instance (solution ∷ []) works) (second-works store instance solution [] works) given
 
-pub audited-well_formed : (store : Store)
+pub audited-well_formed : (store : Store) (room : Option ℕ)
     (instance solution : List ℕ) (k : ℕ) (log : List ℕ) (league : Instance) (played : List Game) (steps : List Step)
     (answer : Answer) → IsWellFormedAudit store instance solution k log league played steps
-    → NoneFails store (instance ∷ solution ∷ log ∷ []) → audited store instance solution k log answer → IsVerdict league played k steps answer
-audited-well_formed store instance solution k log league played steps answer good works given =
+    → NoneFails store (instance ∷ solution ∷ log ∷ []) → audited store room instance solution k log answer → IsVerdict league played k room steps answer
+audited-well_formed store room instance solution k log league played steps answer good works given =
     let front : ℕ = length good.season.say.first + length good.season.say.second in
-    said-known (log_of good.third) steps (IsVerdict league played k) answer good.says_steps
+    said-known (log_of good.third) steps (IsVerdict league played k room) answer good.says_steps
     (takes-known (codes "log") (store.contents log) most_log_bytes (store.took_more (front + most_log_bytes)) (store.failed log)
-    (λ bytes. says_log (log_of bytes) (IsVerdict league played k)) answer good.third good.known good.within
+    (λ bytes. says_log (log_of bytes) (IsVerdict league played k room)) answer good.third good.known good.within
     (third-works store instance solution log [] works)
-    (plays-known store instance solution k (at_log store log k) league played
+    (plays-known store instance solution k (at_log store room log k) league played
     answer good.season (first-works store instance (solution ∷ log ∷ []) works)
     (second-works store instance solution (log ∷ []) works) given))
 
 -- ---- an answer that isn't a refusal
-
--- an answer has a status that is that of no refusal
-abbrev IsAnswered : Answer → Type 0
-IsAnswered answer = (answer.status ≡ File → ⊥) × (answer.status ≡ ReadFault → ⊥)
-
-reads-answered : (which : List ℕ) (known : Option (List ℕ)) (limit : ℕ) (long failed : Type 0)
-    (next : List ℕ → Outcome) (answer : Answer) → IsAnswered answer → takes which known limit long failed next answer
-    → (bytes : List ℕ) × IsFile known limit bytes × next bytes answer
-reads-answered which known limit long failed next answer is (inl read) = read
-reads-answered which known limit long failed next answer is (inr (inl h)) =
-    absurd (is.0 (ap (λ (a : Answer). a.status) h.2))
-reads-answered which known limit long failed next answer is (inr (inr h)) =
-    absurd (is.1 (ap (λ (a : Answer). a.status) h.1))
-
-says-answered : {X : Type 0} (which : List ℕ) (said : Result X forms.Fault) (next : X → Outcome) (answer : Answer)
-    → IsAnswered answer → says which said next answer → (x : X) × (said ≡ Ok x) × next x answer
-says-answered which (Ok x) next answer is given = (x, refl, given)
-says-answered which (Err fault) next answer is given = absurd (is.0 (ap (λ (a : Answer). a.status) given))
 
 slots-answered : (league : Instance) (k : ℕ) (next : Outcome) (answer : Answer) → IsAnswered answer
     → has_slots league k (λ slots. next) answer → next answer
@@ -126,11 +111,6 @@ size-answered : (league : Instance) (k : ℕ) (next : Outcome) (answer : Answer)
     → has_size league k (λ size. next) answer → next answer
 size-answered league k next answer is (inl h) = h.1
 size-answered league k next answer is (inr h) = absurd (is.0 (ap (λ (a : Answer). a.status) h.1))
-
-log-answered : (said : Result (List Step) Fault) (next : List Step → Outcome) (answer : Answer) → IsAnswered answer
-    → says_log said next answer → (steps : List Step) × next steps answer
-log-answered (Ok steps) next answer is given = (steps, given)
-log-answered (Err fault) next answer is given = absurd (is.0 (ap (λ (a : Answer). a.status) given))
 
 -- the files were read and said a season, to which this is answered
 record IsOfSeason (store : Store) (instance solution : List ℕ) (k : ℕ)
@@ -180,13 +160,6 @@ plays-answered store instance solution k next answer is given =
 
 -- ---- files that are known
 
-same_bytes : (known : Option (List ℕ)) (limit : ℕ) (read bytes : List ℕ) → IsFile known limit read
-    → known ≡ Some bytes → read ≡ bytes
-same_bytes known limit read bytes file is = subst (λ (k : Option (List ℕ)). IfSome k (λ b. read ≡ b)) is file.same
-
-same_value : {X E : Type 0} (said : Result X E) (x y : X) → said ≡ Ok x → said ≡ Ok y → x ≡ y
-same_value said x y one other = cc
-
 -- what is answered to the season that they say
 of_known : (store : Store) (instance solution : List ℕ) (k : ℕ) (next : Season → Outcome)
     (league : Instance) (played : List Game) (answer : Answer) → SaySeason store instance solution league played
@@ -213,10 +186,6 @@ of_known store instance solution k next league played answer say of =
     )
 
 -- ---- a schedule, a refutation, a verdict
-
-answered-as : (answer : Answer) (status : Status) → answer.status ≡ status → (status ≡ File → ⊥)
-    → (status ≡ ReadFault → ⊥) → IsAnswered answer
-answered-as answer status is no_file no_fault = (λ file. no_file (sym is ∙ file), λ fault. no_fault (sym is ∙ fault))
 
 found-planned : (league : Instance) (played : List Game) (k : ℕ) (conflicts : Option ℕ) (answer : Answer)
     → answer.status ≡ Yes → IsFound league played k conflicts answer → IsPlanned league played k answer
@@ -264,19 +233,37 @@ resumed-excluded store instance solution k limits league played answer say ended
     found-excluded league played k found.0 answer ended found.2
 
 -- where the verdict on a log says yes, no accepted schedule keeps the played games
-pub audited-excluded : (store : Store)
+pub audited-excluded : (store : Store) (room : Option ℕ)
     (instance solution : List ℕ) (k : ℕ) (log : List ℕ) (league : Instance) (played : List Game)
     (answer : Answer) → SaySeason store instance solution league played → answer.status ≡ Yes
-    → audited store instance solution k log answer → NoneResumes league (counts_of played) k
-audited-excluded store instance solution k log league played answer say ended given =
-    let next : Season → Outcome = at_log store log k in
+    → audited store room instance solution k log answer → NoneResumes league (counts_of played) k
+audited-excluded store room instance solution k log league played answer say ended given =
+    let next : Season → Outcome = at_log store room log k in
     let answered : IsAnswered answer = answered-as answer Yes ended (λ same. cc) (λ same. cc) in
     let at = of_known store instance solution k next league played answer say
     (plays-answered store instance solution k next answer answered given) in
     let read = reads-answered (codes "log") (store.contents log) most_log_bytes (store.took_more (at.0 + most_log_bytes))
-    (store.failed log) (λ bytes. says_log (log_of bytes) (IsVerdict league played k)) answer answered at.1 in
-    let said = log-answered (log_of read.0) (IsVerdict league played k) answer answered read.2 in
+    (store.failed log) (λ bytes. says_log (log_of bytes) (IsVerdict league played k room)) answer answered at.1 in
+    let said = log-answered (log_of read.0) (IsVerdict league played k room) answer answered read.2 in
     said.1.none ended
+
+-- where the answer is a verdict, the steps of the log keep to the limit
+pub audited-kept : (store : Store) (room : Option ℕ)
+    (instance solution : List ℕ) (k : ℕ) (log : List ℕ) (league : Instance) (played : List Game) (steps : List Step)
+    (answer : Answer) → IsWellFormedAudit store instance solution k log league played steps → IsAnswered answer
+    → audited store room instance solution k log answer
+    → KeepsRoom (resume_rows league (counts_of played) k) (var_count league) room steps
+audited-kept store room instance solution k log league played steps answer good answered given =
+    let next : Season → Outcome = at_log store room log k in
+    let verdict : List Step → Outcome = IsVerdict league played k room in
+    let at = of_known store instance solution k next league played answer good.season.say
+    (plays-answered store instance solution k next answer answered given) in
+    let read = reads-answered (codes "log") (store.contents log) most_log_bytes (store.took_more (at.0 + most_log_bytes))
+    (store.failed log) (λ bytes. says_log (log_of bytes) verdict) answer answered at.1 in
+    let same : read.0 ≡ good.third =
+    same_bytes (store.contents log) most_log_bytes read.0 good.third read.1 good.known in
+    (said-known (log_of good.third) steps verdict answer good.says_steps
+    (subst (λ (b : List ℕ). says_log (log_of b) verdict answer) same read.2)).within
 
 -- ---- `resume --near`
 

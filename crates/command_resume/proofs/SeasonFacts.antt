@@ -152,11 +152,11 @@ small-one : resume_size league 1 ≤ most_terms
 small-one = omega (arith, sizes)
 
 pub audited-one : (answer : Answer)
-    → audited store (codes "league") (codes "played") 1 (codes "log") answer
+    → audited store None (codes "league") (codes "played") 1 (codes "log") answer
     → (answer ≡ record { status = Yes; text = codes "accepted steps 1\n" }) × NoneResumes league (counts_of []) 1
 audited-one answer given =
-    let verdict : IsVerdict league [] 1 steps answer =
-    audited-well_formed store (codes "league") (codes "played") 1 (codes "log") league [] steps answer
+    let verdict : IsVerdict league [] 1 None steps answer =
+    audited-well_formed store None (codes "league") (codes "played") 1 (codes "log") league [] steps answer
     (formed 1 (omega arith) small-one) (nothing_fails (codes "league" ∷ codes "played" ∷ codes "log" ∷ [])) given in
     let is : answer ≡ record { status = Yes; text = codes "accepted steps 1\n" } =
     verdict.verdict ∙ ap (verdict_answer 1) verdict-one ∙ accepted-one in
@@ -179,10 +179,10 @@ small-none : resume_size league 0 ≤ most_terms
 small-none = omega (arith, sizes-none)
 
 pub audited-none : (answer : Answer)
-    → audited store (codes "league") (codes "played") 0 (codes "log") answer
+    → audited store None (codes "league") (codes "played") 0 (codes "log") answer
     → answer ≡ record { status = No; text = codes "rejected step 1 cause UnknownRow\n" }
 audited-none answer given =
-    let verdict : IsVerdict league [] 0 steps answer =
-    audited-well_formed store (codes "league") (codes "played") 0 (codes "log") league [] steps answer
+    let verdict : IsVerdict league [] 0 None steps answer =
+    audited-well_formed store None (codes "league") (codes "played") 0 (codes "log") league [] steps answer
     (formed 0 (omega arith) small-none) (nothing_fails (codes "league" ∷ codes "played" ∷ codes "log" ∷ [])) given in
     verdict.verdict ∙ ap (verdict_answer 1) verdict-none ∙ rejected-one

@@ -13,16 +13,14 @@ use Rattle.robinx_form.specs.SolutionFile.{solution_of}
 use Rattle.robinx_form.specs.Walk as forms
 use Rattle.robinx_read.specs.declared.instance.TheConstants.{INSTANCE_LIMIT, SOLUTION_LIMIT}
 use Rattle.answers.specs.Reply.{Answer}
-use Rattle.answers.specs.SeenReply.{IsMalformed, MatchStage}
+use Rattle.answers.specs.SeenReply.{IsMalformed}
 use Rattle.answers.specs.Stages.{IsFile, IsUnread, Outcome, reads, says, takes}
-use Rattle.answers.specs.declared.reply.NoValue.{NoValue}
-use Rattle.answers.specs.declared.reply.NoValue.TheVariants.{Refused, Memory, Room}
 use Rattle.answers.proofs.StageLemmas.{says-value, takes-rest}
 use Rattle.encoding_base.specs.Variables.{var_count}
 use Rattle.refutation.specs.Logs.{Fault, log_of}
 use Rattle.refutation.specs.Steps.{Step}
 use Rattle.refutation.specs.Verdict.{verdict_of}
-use Rattle.command_check.specs.Check.{IsVerdictOver, most_log_bytes, says_log}
+use Rattle.command_check.specs.Check.{IsVerdictWithin, most_log_bytes, says_log}
 use Rattle.command_check.proofs.StageLemmas.{is_accepted}
 use Rattle.resume_rows.specs.Kept.{resume_rows, resume_size}
 use Rattle.resume_rows.proofs.Faithful.{accepted_logs_exclude}
@@ -240,15 +238,6 @@ plays-wider store instance solution k narrow wide answer wider given =
     wider (record { league = league; played = played; slots = k; bytes = length first + length second })))))))
     given
 
--- a stage that refuses so refuses as is allowed
-pub stage-wider : {X : Type 0} (goes : X → Type 0) (narrow wide : Outcome)
-    → ((answer : Answer) → narrow answer → wide answer) → (result : Result X NoValue)
-    → MatchStage result goes narrow → MatchStage result goes wide
-stage-wider goes narrow wide wider (Ok x) given = given
-stage-wider goes narrow wide wider (Err (Refused refusal)) given = wider _ given
-stage-wider goes narrow wide wider (Err Memory) given = tt
-stage-wider goes narrow wide wider (Err Room) given = tt
-
 -- two files were read, one after the other
 pub raised-twice : (old between now front more : ℕ) → between ≡ raised old front → now ≡ raised between more
     → now ≡ raised old (front + more)
@@ -258,49 +247,50 @@ raised-twice old between now front more first second =
 
 -- ---- `audit`
 
-said-verdict : (league : Instance) (played : List Game) (k : ℕ) (said : Result (List Step) Fault) (answer : Answer)
+said-verdict : (league : Instance) (played : List Game) (k : ℕ) (room : Option ℕ) (said : Result (List Step) Fault) (answer : Answer)
     → IsInstance league → k ≤ slot_count league.n
-    → says_log said (IsVerdictOver (resume_rows league (counts_of played) k) (var_count league)) answer
-    → says_log said (IsVerdict league played k) answer
-said-verdict league played k (Ok steps) answer instance slots is = record {
-  verdict = is;
+    → says_log said (IsVerdictWithin (resume_rows league (counts_of played) k) (var_count league) room) answer
+    → says_log said (IsVerdict league played k room) answer
+said-verdict league played k room (Ok steps) answer instance slots is = record {
+  verdict = is.verdict;
+  within = is.within;
   none = λ accepted.
       accepted_logs_exclude league played k steps instance slots
       (is_accepted (length steps) (verdict_of (resume_rows league (counts_of played) k) (var_count league) steps)
-      (sym (ap (λ (a : Answer). a.status) is) ∙ accepted));
+      (sym (ap (λ (a : Answer). a.status) is.verdict) ∙ accepted));
 }
-said-verdict league played k (Err fault) answer instance slots is = is
+said-verdict league played k room (Err fault) answer instance slots is = is
 
 -- where the verdict over the resume rows says yes, no accepted schedule keeps the played games
 pub read-verdict : (known : Option (List ℕ)) (long failed : Type 0) (league : Instance) (played : List Game) (k : ℕ)
-    (answer : Answer) → IsInstance league → k ≤ slot_count league.n
+    (room : Option ℕ) (answer : Answer) → IsInstance league → k ≤ slot_count league.n
     → takes (codes "log") known most_log_bytes long failed
     (λ bytes.
-    says_log (log_of bytes) (IsVerdictOver (resume_rows league (counts_of played) k) (var_count league))) answer
+    says_log (log_of bytes) (IsVerdictWithin (resume_rows league (counts_of played) k) (var_count league) room)) answer
     → takes (codes "log") known most_log_bytes long failed
-    (λ bytes. says_log (log_of bytes) (IsVerdict league played k))
+    (λ bytes. says_log (log_of bytes) (IsVerdict league played k room))
     answer
-read-verdict known long failed league played k answer instance slots =
+read-verdict known long failed league played k room answer instance slots =
     read-wider (codes "log") known most_log_bytes long failed
-    (λ bytes. says_log (log_of bytes) (IsVerdictOver (resume_rows league (counts_of played) k) (var_count league)))
-    (λ bytes. says_log (log_of bytes) (IsVerdict league played k)) answer
-    (λ bytes. said-verdict league played k (log_of bytes) answer instance slots)
+    (λ bytes. says_log (log_of bytes) (IsVerdictWithin (resume_rows league (counts_of played) k) (var_count league) room))
+    (λ bytes. says_log (log_of bytes) (IsVerdict league played k room)) answer
+    (λ bytes. said-verdict league played k room (log_of bytes) answer instance slots)
 
 -- what is answered to the log by the counts from there on is the answer of the whole run
-abbrev pub at_log : Store → List ℕ → ℕ → Season → Outcome
-at_log store log k season =
+abbrev pub at_log : Store → Option ℕ → List ℕ → ℕ → Season → Outcome
+at_log store room log k season =
     takes (codes "log") (store.contents log) most_log_bytes (store.took_more (season.bytes + most_log_bytes)) (store.failed log)
-    (λ bytes. says_log (log_of bytes) (IsVerdict season.league season.played k))
+    (λ bytes. says_log (log_of bytes) (IsVerdict season.league season.played k room))
 
-pub audited-within : (whole rest : Store) (instance solution : List ℕ) (k : ℕ) (log : List ℕ) (season : Season)
+pub audited-within : (whole rest : Store) (room : Option ℕ) (instance solution : List ℕ) (k : ℕ) (log : List ℕ) (season : Season)
     → IsSaid whole.contents instance solution k season → IsRest season.bytes whole rest → (answer : Answer)
     → reads rest (codes "log") log most_log_bytes 0
-    (λ bytes. says_log (log_of bytes) (IsVerdict season.league season.played season.slots)) answer
-    → audited whole instance solution k log answer
-audited-within whole rest instance solution k log season said is_rest answer given =
+    (λ bytes. says_log (log_of bytes) (IsVerdict season.league season.played season.slots room)) answer
+    → audited whole room instance solution k log answer
+audited-within whole rest room instance solution k log season said is_rest answer given =
     let verdict : ℕ → List ℕ → Outcome =
-    λ slots bytes. says_log (log_of bytes) (IsVerdict season.league season.played slots) in
+    λ slots bytes. says_log (log_of bytes) (IsVerdict season.league season.played slots room) in
     let numbered : reads rest (codes "log") log most_log_bytes 0 (verdict k) answer =
     subst (λ (slots : ℕ). reads rest (codes "log") log most_log_bytes 0 (verdict slots) answer) said.slots_are given in
-    plays-season whole instance solution k (at_log whole log k) season said answer
+    plays-season whole instance solution k (at_log whole room log k) season said answer
     (takes-rest season.bytes whole rest is_rest (codes "log") log most_log_bytes (verdict k) answer numbered)

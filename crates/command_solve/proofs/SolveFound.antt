@@ -113,9 +113,11 @@ found-spent league budgets may_stop steps patterns answer spent leaves no_circle
       found = inr (inr (record {
         steps = steps;
         patterns = patterns;
-        budget = spent.limited;
-        spent = spent.spent;
-        few = spent.few;
+        log = spent.log.behind;
+        none = spent.log.none;
+        budget = spent.spent.limited;
+        spent = spent.spent.spent;
+        few = spent.spent.few;
         pattern_rows = leaves;
         status = status;
         text = text;

@@ -1,5 +1,5 @@
 -- What `solve` answers: its stages in their order, and what is found of a league.
-use Rattle.std.specs.Prelude.{◌≡◌, ℕ, ◌<◌, ◌≤◌, ◌^◌, ◌++◌, ◌⊎◌, true, if◌then◌else◌, List, length, reverse}
+use Rattle.std.specs.Prelude.{◌≡◌, ℕ, ◌<◌, ◌≤◌, ◌^◌, ◌++◌, ◌⊎◌, true, false, if◌then◌else◌, List, [], length, reverse}
 use Rattle.std.specs.Prelude.{codes, decimal, Some, Ok}
 use Rattle.std.specs.List.{All, flat_map}
 use Rattle.robin_io.specs.Outside.{Store}
@@ -19,13 +19,14 @@ use Rattle.answers.specs.Stages.{◌>>=◌, Outcome, reads, says}
 use Rattle.answers.specs.declared.status.Status.TheVariants.{Yes, Refuted, Spent}
 use Rattle.rows.specs.Rows.{Row}
 use Rattle.encoding_base.specs.Encoding.{encoding_size}
-use Rattle.encoding_base.specs.Variables.{var_count}
+use Rattle.encoding_base.specs.Variables.{has_breaks, var_count}
 use Rattle.refutation.specs.Steps.{Step}
 use Rattle.refutation.specs.Logs.{log_of}
 use Rattle.refutation.specs.Texts.{log_text}
 use Rattle.refutation.specs.Verdict.{verdict_of}
 use Rattle.refutation.specs.declared.verdict.Verdict.TheVariants.{Accepted}
 use Rattle.clause_search.specs.News.{IsSpent}
+use Rattle.league_search.specs.Sums.{IsBehind}
 use Rattle.robin_watch.specs.declared.budgets.Budgets.{Budgets}
 use Rattle.moves.specs.declared.swap.Swap.{Swap}
 use Rattle.moves.specs.declared.swap.Swap.TheVariants.{HomeSwap, RoundSwap, TeamSwap, PartRoundSwap, PartTeamSwap}
@@ -102,15 +103,18 @@ pub record IsRefuted (league : Instance) (rows : List Row) (answer : Answer) : T
   pub text : answer.text ≡ log_text steps
   pub reads_back : log_of answer.text ≡ Ok steps
 
--- A log that is spent at the budget of conflicts over the league's rows is written, and reads back as it. The budget is
+-- A log that is spent at the budget of conflicts over the league's rows is written, and reads back as it. Where hard
+-- constraints bound breaks, sums may come before the steps of the search, which are as many as the budget. The budget is
 -- below 3 to the number of variables, so a greater one, or none, is never spent. Patterns are known that satisfy the
 -- league's pattern rows, or a log that is spent over these at the budget of patterns.
 pub record IsBudgetSpent (league : Instance) (rows : List Row) (budgets : Budgets) (answer : Answer) : Type 0 where
   pub steps : List Step
   pub patterns : PatternFound
-  pub budget : budgets.conflicts ≡ Some (length steps)
-  pub spent : IsSpent (length steps) rows (var_count league) steps
-  pub few : length steps < 3 ^ var_count league
+  pub log : IsBehind rows (var_count league) steps
+  pub none : has_breaks league.constraints ≡ false → log.sums ≡ []
+  pub budget : budgets.conflicts ≡ Some (length log.search)
+  pub spent : IsSpent (length log.search) log.more (var_count league) log.search
+  pub few : length log.search < 3 ^ var_count league
   pub pattern_rows : LeavesOpen league budgets.patterns patterns
   pub status : answer.status ≡ Spent
   pub text : answer.text ≡ log_text steps

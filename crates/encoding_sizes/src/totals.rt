@@ -1,5 +1,4 @@
-//! How many terms the rows of a league have. They are counted and not written, which takes no memory, and no longer
-//! where there are more of them.
+//! How many terms the rows of a league have. They are counted and not written, which takes no memory.
 ghost use Rattle.std.specs.Prelude.{◌≡◌, ◌*◌, ◌≤◌, length, IsTrue};
 ghost use Rattle.std.specs.List.{All};
 ghost use Rattle.league.specs.Instance.{IsTeamCount, class_fits};

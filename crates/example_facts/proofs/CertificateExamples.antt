@@ -1,6 +1,6 @@
 -- What `bound` says of certificates over the league that wants two teams even behind slot 0, and what runs of `prove`
 -- and of `bound` say.
-use Rattle.std.proofs.Common.{lit<, ◌≡◌, ℕ, ◌+◌, ◌<◌, ◌≤◌, if◌then◌else◌, List, [], ◌∷◌, ◌++◌, get_or, Option}
+use Rattle.std.proofs.Common.{lit<, true, false, ◌≡◌, ℕ, ◌+◌, ◌<◌, ◌≤◌, if◌then◌else◌, List, [], ◌∷◌, ◌++◌, get_or, Option}
 use Rattle.std.proofs.Common.{drop, zero, suc, Some, None, Result, Ok, codes, bytes_eq, decimal, ap, arith, le_of_eq}
 use Rattle.std.proofs.Common.{refl, sym, ◌∙◌}
 use Rattle.std.specs.Fmt.{digits}
@@ -17,7 +17,7 @@ use Rattle.refutation.specs.declared.verdict.Cause.TheVariants.{NoConflict}
 use Rattle.refutation.specs.declared.verdict.Verdict.TheVariants.{Accepted, Rejected}
 use Rattle.bounds.specs.Certificates.{certificate_of, certificate_text}
 use Rattle.bounds.specs.declared.certificate.Certificate.{Certificate}
-use Rattle.command_prove.specs.Bound.{IsBoundVerdict, IsWellFormedCertificate, bound_answer, bound_verdict}
+use Rattle.command_prove.specs.Bound.{IsBoundVerdict, IsPastRoom, IsWellFormedCertificate, bound_answer, bound_verdict}
 use Rattle.robin_run.specs.Bound.{IsCertified}
 use Rattle.robin_run.specs.Prove.{IsBettered, IsUnbettered}
 use Rattle.example_facts.proofs.LeastExamples.{away-one, away-zero, away_first, even-accepted, even_soon, log}
@@ -38,11 +38,26 @@ accepted-is : accepted ≡ bound_answer 4 2 Accepted
 unfolding digits
 accepted-is = refl
 
-pub verdict-four : IsBoundVerdict even_soon certificate accepted
+pub verdict-four : IsBoundVerdict even_soon None certificate accepted
 verdict-four = record {
   verdict = accepted-is ∙ ap (bound_answer 4 2) (sym certificate-proves);
+  within = λ some. refl;
   holds = λ yes. lower_bound;
 }
+
+-- a clause of one literal takes 64 bytes and 8 more, and the empty one 64
+pub verdict-room : IsBoundVerdict even_soon (Some 136) certificate accepted
+verdict-room = record {
+  verdict = accepted-is ∙ ap (bound_answer 4 2) (sym certificate-proves);
+  within = λ some. refl;
+  holds = λ yes. lower_bound;
+}
+
+pub verdict-past : IsPastRoom even_soon (Some 135) certificate
+verdict-past = (omega arith, (2, omega arith, refl))
+
+pub verdict-little : (answer : Answer) → IsBoundVerdict even_soon (Some 135) certificate answer → ⊥
+verdict-little answer is = let same : false ≡ true = is.within (omega arith) in cc
 
 -- a certificate of 5 with the steps of the one before: at most 4 may be paid, so that row 31 demands nothing and the
 -- unit 9 stays open
@@ -62,9 +77,10 @@ rejected-is = refl
 no_yes : No ≡ Yes → ⊥
 no_yes is = cc
 
-pub verdict-five : IsBoundVerdict even_soon five rejected
+pub verdict-five : IsBoundVerdict even_soon None five rejected
 verdict-five = record {
   verdict = rejected-is ∙ ap (bound_answer 5 2) (sym five-verdict);
+  within = λ some. refl;
   holds = λ yes. absurd (no_yes yes);
 }
 
@@ -72,15 +88,16 @@ verdict-five = record {
 not_five : (n : ℕ) → n ≡ 4 → 5 ≤ n → ⊥
 not_five n four enough = omega (arith, four, enough)
 
-pub verdict-not_five : (text : List ℕ) → IsBoundVerdict even_soon five (record { status = Yes; text = text }) → ⊥
-verdict-not_five text is = not_five 4 refl (is.holds refl (counts_of zero_first) even-accepted)
+pub verdict-not_five : (room : Option ℕ) (text : List ℕ)
+    → IsBoundVerdict even_soon room five (record { status = Yes; text = text }) → ⊥
+verdict-not_five room text is = not_five 4 refl (is.holds refl (counts_of zero_first) even-accepted)
 
 -- the certificate that proves 4 isn't refused
-pub verdict-refused : IsBoundVerdict even_soon certificate rejected → ⊥
-verdict-refused is =
+pub verdict-refused : (room : Option ℕ) → IsBoundVerdict even_soon room certificate rejected → ⊥
+verdict-refused room is =
     no_yes (ap (λ (answer : Answer). answer.status) (is.verdict ∙ ap (bound_answer 4 2) certificate-proves))
 
--- 0 needs no step
+-- 0 needs no step, and so no room
 abbrev nothing : Certificate
 nothing = record { bound = 0; log = [] }
 
@@ -94,8 +111,12 @@ nothing-is : nothing_answer ≡ bound_answer 0 0 Accepted
 unfolding digits
 nothing-is = refl
 
-pub verdict-nothing : IsBoundVerdict away_first nothing nothing_answer
-verdict-nothing = record { verdict = nothing-is; holds = λ yes m accepted. omega arith }
+pub verdict-nothing : IsBoundVerdict away_first (Some 0) nothing nothing_answer
+verdict-nothing = record {
+  verdict = nothing-is;
+  within = λ some. absurd (omega (arith, some));
+  holds = λ yes m accepted. omega arith;
+}
 
 -- ---- files
 
@@ -150,15 +171,16 @@ certificate-five league is =
 
 -- ---- runs of `bound`
 
-pub bounded-four : Writes (ended_with Yes (Some (codes "> ")) (Some (codes "> accepted bound 4 steps 2\n"))) (IsBoundVerdict even_soon certificate)
+pub bounded-four : Writes (ended_with Yes (Some (codes "> ")) (Some (codes "> accepted bound 4 steps 2\n"))) (IsBoundVerdict even_soon None certificate)
 bounded-four = record { answer = accepted; of_kind = verdict-four; ended = refl; written = refl }
 
-pub bounded-five : Writes (ended_with No (Some []) (Some (codes "rejected step 1 cause NoConflict\n"))) (IsBoundVerdict even_soon five)
+pub bounded-five : Writes (ended_with No (Some []) (Some (codes "rejected step 1 cause NoConflict\n"))) (IsBoundVerdict even_soon None five)
 bounded-five = record { answer = rejected; of_kind = verdict-five; ended = refl; written = refl }
 
 -- a run that says yes to 5 there is not, whatever it writes
-pub bounded-not_five : (old new : Option (List ℕ)) → Writes (ended_with Yes old new) (IsBoundVerdict even_soon five) → ⊥
-bounded-not_five old new is =
+pub bounded-not_five : (room : Option ℕ) (old new : Option (List ℕ))
+    → Writes (ended_with Yes old new) (IsBoundVerdict even_soon room five) → ⊥
+bounded-not_five room old new is =
     not_five 4 refl (is.of_kind.holds (sym is.ended) (counts_of zero_first) even-accepted)
 
 accepted-line : accepted_line

@@ -63,6 +63,7 @@ use Rattle.moves.specs.Moves.{moved}
 use Rattle.moves.specs.Neighbours.{home_swap}
 use Rattle.moves.specs.declared.swap.Swap.{Swap}
 use Rattle.solve.specs.Solutions.{IsDescent, league_score}
+use Rattle.league_search.proofs.FoundLemmas.{plain_behind}
 use Rattle.command_solve.specs.Solve.{IsBudgetSpent, IsFound, IsRefuted, IsSchedule, descent_text}
 use Rattle.command_solve.specs.Patterns as patterned
 use Rattle.command_solve.specs.Patterns.{AreFound, ArePatterns, patterns_text}
@@ -520,6 +521,8 @@ pub solve-spent : IsBudgetSpent even_soon (rows_of even_soon) budgets spent
 solve-spent = record {
   steps = [];
   patterns = Patterns turns;
+  log = plain_behind (rows_of even_soon) 8 [];
+  none = λ none. refl;
   budget = refl;
   spent = record { count = refl; news = AreNews-none _ _; quiet = (all_free, quiet_rows all_free (rows_of even_soon) refl) };
   few = lit< tt;
@@ -535,7 +538,7 @@ none_some steps is = cc
 
 pub solve-never_spent : (answer : Answer)
     → IsBudgetSpent even_soon (rows_of even_soon) (record budgets { conflicts = None }) answer → ⊥
-solve-never_spent answer is = none_some is.steps is.budget
+solve-never_spent answer is = none_some is.log.search is.budget
 
 spent_yes : Spent ≡ Yes → ⊥
 spent_yes is = cc
@@ -574,6 +577,8 @@ pub solve-wanted : IsBudgetSpent wanted (rows_of wanted) budgets spent
 solve-wanted = record {
   steps = [];
   patterns = pattern_answers.Spent [];
+  log = plain_behind (rows_of wanted) 8 [];
+  none = λ none. refl;
   budget = refl;
   spent = record { count = refl; news = AreNews-none _ _; quiet = (season_values, quiet_rows season_values (rows_of wanted) refl) };
   few = lit< tt;

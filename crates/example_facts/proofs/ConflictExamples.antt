@@ -32,6 +32,7 @@ use Rattle.decoding.proofs.SeasonLemmas.{accepted_logs_exclude}
 use Rattle.explain.specs.Parts.{is_hard_number, part_of, without}
 use Rattle.robin_watch.proofs.LimitLemmas.{kept-unstopped}
 use Rattle.solve.specs.Solutions.{IsSpentOn, IsWritable, RefutesLeague}
+use Rattle.league_search.proofs.FoundLemmas.{plain_spent}
 use Rattle.explain.specs.Cases.{is_decided}
 use Rattle.explain.specs.Conflicts.{AreDecided, HasConflict, HasSchedule, IsAmple, IsCase, IsConflict, IsDecided}
 use Rattle.explain.specs.Conflicts.{IsExplanation, IsIrreducible, IsIrreducibleIfDecided, IsSeason, IsSpentBy}
@@ -251,13 +252,13 @@ refutes-apart = record {
 
 -- without it propagation stands still before it begins: the league of no demand
 spent_bare : IsSpentOn (two_with []) (Some 0) []
-spent_bare = record {
-  limited = refl;
-  spent = record { count = refl; news = AreNews-none _ _; quiet = (all_free, quiet_pairs season_pairs) };
-  few = lit< tt;
-  tidy = All-nil (IsTidy 8);
-  writable = writable-none;
-}
+spent_bare =
+    plain_spent (two_with []) (Some 0) [] writable-none (record {
+      limited = refl;
+      spent = record { count = refl; news = AreNews-none _ _; quiet = (all_free, quiet_pairs season_pairs) };
+      few = lit< tt;
+      tidy = All-nil (IsTidy 8);
+    })
 
 spent_by_bare : IsSpentBy (two_with []) (Some 0) ⊥ []
 spent_by_bare = record { kept = Some 0; is_kept = inl refl; spent = spent_bare }
@@ -275,12 +276,13 @@ conflict-open = record {
 }
 
 -- without a limit, and where nothing may stop the run, the case isn't one
-none_some : ◌≡◌ {A = Option ℕ} None (Some 0) → ⊥
-none_some is = cc
+none_some : (n : ℕ) → ◌≡◌ {A = Option ℕ} None (Some n) → ⊥
+none_some n is = cc
 
 pub case-unlimited : IsCase apart None ⊥ (1 ∷ []) 1 (Undecided []) → ⊥
 case-unlimited (inl is) =
-    none_some (sym (kept-unstopped None ⊥ is.kept (λ never. never) is.is_kept) ∙ is.spent.limited)
+    none_some (length is.spent.log.behind.search)
+    (sym (kept-unstopped None ⊥ is.kept (λ never. never) is.is_kept) ∙ is.spent.spent.limited)
 case-unlimited (inr untried) = untried.0
 
 -- where the run may be stopped it is: the others weren't tried

@@ -48,6 +48,7 @@ use Rattle.decoding.specs.Excluded.{NoneAccepted}
 use Rattle.decoding.proofs.SeasonLemmas.{accepted_logs_exclude}
 use Rattle.explain.specs.Parts.{first_unknown, is_hard_number, part_of}
 use Rattle.solve.specs.Solutions.{IsSpentOn}
+use Rattle.league_search.proofs.FoundLemmas.{plain_spent}
 use Rattle.explain.specs.Conflicts.{IsIrreducible}
 use Rattle.explain.specs.declared.cases.Case.TheVariants.{Without, Undecided}
 use Rattle.command_explain.specs.Explained.{IsBudgetSpent, IsFound, IsMet, IsNamed, explained as explains}
@@ -518,21 +519,21 @@ quiet_apart = record {
 }
 
 spent_apart : IsSpentOn apart (Some 0) []
-spent_apart = record {
-  limited = refl;
-  spent = record {
-    count = refl;
-    news = AreNews-none _ _;
-    quiet = (
-      all_free,
-      All-append (IsQuietRow all_free) (map pair_row season_pairs) (one_game ∷ []) (quiet_pairs season_pairs)
-          (All-from_recursion (IsQuietRow all_free) (one_game ∷ []) (quiet_apart, tt)),
-    );
-  };
-  few = lit< tt;
-  tidy = All-nil (IsTidy 8);
-  writable = writable-none;
-}
+spent_apart =
+    plain_spent apart (Some 0) [] writable-none (record {
+      limited = refl;
+      spent = record {
+        count = refl;
+        news = AreNews-none _ _;
+        quiet = (
+          all_free,
+          All-append (IsQuietRow all_free) (map pair_row season_pairs) (one_game ∷ []) (quiet_pairs season_pairs)
+              (All-from_recursion (IsQuietRow all_free) (one_game ∷ []) (quiet_apart, tt)),
+        );
+      };
+      few = lit< tt;
+      tidy = All-nil (IsTidy 8);
+    })
 
 open_log_read : log_of open_log.text ≡ Ok []
 unfolding lines_from

@@ -33,7 +33,8 @@ use Rattle.command_prove.specs.Bound.{bound_verdict}
 use Rattle.bounds.specs.Proofs as bounds
 use Rattle.bounds.specs.declared.proved.Proved.TheVariants as proofs
 use Rattle.command_prove.proofs.ProveAnswers.{shown-refused}
-use Rattle.command_prove.specs.Prove.{IsCertified, IsShown, IsBettered, IsLeast, IsRejected, IsSpentBelow, IsWellFormedCase}
+use Rattle.command_prove.specs.Prove.{IsCertified, IsShown, IsBettered, IsLeast, IsLeastByFloor, IsRejected, IsSpentBelow}
+use Rattle.command_prove.specs.Prove.{IsWellFormedCase, spent_text}
 use Rattle.example_facts.proofs.LeastExamples.{away-one, away-zero, away_first, even-accepted, even_soon, least-four}
 use Rattle.example_facts.proofs.LeastExamples.{log, lower_bound, one-fit, one-in_order, one_first}
 use Rattle.example_facts.proofs.BetterExamples.{better-one}
@@ -167,6 +168,40 @@ none_below n three none = omega (arith, three, none)
 pub least-dear : (conflicts : Option ℕ) (answer : Answer) → IsLeast away_first conflicts zero_first answer → ⊥
 least-dear conflicts answer is = none_below 3 refl (is.least (counts_of one_first) away-one)
 
+-- ---- a least objective by a floor: the same certificate where a budget of 0 is spent
+
+certified-four : IsCertified even_soon 4 log
+certified-four = record {
+  least = lower_bound;
+  proves = certificate-proves;
+  reads_back = ap certificate_of (sym certificate-written) ∙ certificate-read;
+}
+
+pub by_floor-none : IsLeastByFloor even_soon (Some 0) zero_first certified
+by_floor-none = record {
+  steps = [];
+  floor = log;
+  accepted = even-accepted;
+  some = omega arith;
+  budget = refl;
+  spent = spent-at_zero.spent;
+  few = spent-at_zero.few;
+  certified = certified-four;
+  status = refl;
+  text = certificate-written;
+}
+
+-- a budget that is spent is one that was set
+no_budget : (steps : List Step) → ◌≡◌ {A = Option ℕ} None (Some (length steps)) → ⊥
+no_budget steps is = cc
+
+pub by_floor-never : (league : Instance) (games : List Game) (answer : Answer)
+    → IsLeastByFloor league None games answer → ⊥
+by_floor-never league games answer is = no_budget is.steps is.budget
+
+pub by_floor-dear : (conflicts : Option ℕ) (answer : Answer) → IsLeastByFloor away_first conflicts zero_first answer → ⊥
+by_floor-dear conflicts answer is = none_below 3 refl (is.certified.least (counts_of one_first) away-one)
+
 -- ---- a better season, with what it costs
 
 abbrev pub better_file : List ℕ
@@ -239,14 +274,31 @@ spent-none = record {
   budget = refl;
   spent = spent-at_zero.spent;
   few = spent-at_zero.few;
+  below = omega arith;
   certified = floor-none;
   status = refl;
   text = refl;
   reads_back = λ short. spent-read;
 }
 
-no_budget : (steps : List Step) → ◌≡◌ {A = Option ℕ} None (Some (length steps)) → ⊥
-no_budget steps is = cc
+-- with a floor that is the objective, whose digit stands at place 18, the budget isn't called spent
+spent-place : (bound : ℕ) (floor steps : List Step) → bound < 4 → get_or (spent_text 4 bound floor steps) 18 0 ≡ 48 + bound
+unfolding digits
+spent-place zero floor steps below = refl
+spent-place (suc zero) floor steps below = refl
+spent-place (suc (suc zero)) floor steps below = refl
+spent-place (suc (suc (suc zero))) floor steps below = refl
+spent-place (suc (suc (suc (suc bound)))) floor steps below = absurd (omega (arith, below))
+
+four_at : (bound at : ℕ) → at ≡ 52 → at ≡ 48 + bound → bound < 4 → ⊥
+four_at bound at four is below = omega (arith, four, is, below)
+
+pub spent-least : (conflicts : Option ℕ) (may_stop : Type 0) (rest : List ℕ)
+    → IsSpentBelow even_soon conflicts may_stop zero_first
+    (record { status = Spent; text = codes "objective 4\nbound 4" ++ rest }) → ⊥
+spent-least conflicts may_stop rest is =
+    four_at is.bound 52 refl
+    (ap (λ (text : List ℕ). get_or text 18 0) is.text ∙ spent-place is.bound is.floor is.steps is.below) is.below
 
 pub spent-never : (league : Instance) (may_stop : Type 0) (games : List Game) (answer : Answer)
     → IsSpentBelow league None may_stop games answer → ⊥
@@ -324,15 +376,18 @@ case-gone works = works 0 [] (lit< tt) refl
 pub proved-even : Writes (ended_with Yes (Some (codes "> ")) (Some (codes "> " ++ certificate_file))) (IsShown even_soon (Some 1) ⊥ zero_first)
 proved-even = record { answer = certified; of_kind = inr (inl least-one); ended = refl; written = refl }
 
+pub proved-floor : Writes (ended_with Yes (Some []) (Some certificate_file)) (IsShown even_soon (Some 0) ⊥ zero_first)
+proved-floor = record { answer = certified; of_kind = inr (inr (inl by_floor-none)); ended = refl; written = refl }
+
 pub proved-rejected : Writes (ended_with No (Some []) (Some report.text)) (IsShown even_soon None ⊥ twice)
 proved-rejected = record { answer = report; of_kind = inl rejected-twice; ended = refl; written = refl }
 
 pub proved-better : Writes (ended_with Better (Some []) (Some better_file)) (IsShown away_first None ⊥ zero_first)
-proved-better = record { answer = bettered; of_kind = inr (inr (inl bettered-zero)); ended = refl; written = refl }
+proved-better = record { answer = bettered; of_kind = inr (inr (inr (inl bettered-zero))); ended = refl; written = refl }
 
 pub proved-spent : Writes (ended_with Spent (Some []) (Some (codes "objective 4\nbound 0\nrefutation 1\nend\n")))
     (IsShown even_soon (Some 0) ⊥ zero_first)
-proved-spent = record { answer = spent; of_kind = inr (inr (inr spent-none)); ended = refl; written = refl }
+proved-spent = record { answer = spent; of_kind = inr (inr (inr (inr spent-none))); ended = refl; written = refl }
 
 -- a schedule that isn't accepted is told so
 pub proved-twice : (conflicts : Option ℕ) (may_stop : Type 0) (old new : Option (List ℕ))

@@ -1,6 +1,6 @@
 -- What `resume` and `audit` answer of the files of ResumeExamples.
 use Rattle.clause_search.proofs.SearchLemmas.{AreNews-none}
-use Rattle.std.proofs.Common.{lit<, lit≤, ◌≡◌, ℕ, ◌∙◌}
+use Rattle.std.proofs.Common.{lit<, lit≤, ◌≡◌, ℕ, ◌∙◌, true, false}
 use Rattle.std.proofs.Common.{List, [], ◌∷◌, ◌++◌, Option, Some, None, Ok, codes}
 use Rattle.std.proofs.Common.{ap, sym, refl, arith, inl, inr}
 use Rattle.std.proofs.lemmas.List.Elements.{All-nil}
@@ -220,7 +220,7 @@ resumed-first = record { answer = planned_reply; of_kind = found-first None; end
 pub resumed-lost : (ended : Status) → Writes (ended_with ended (Some []) None) (IsFound league first 1 None) → ⊥
 resumed-lost ended is = is.written
 
--- ---- what `audit` answers of the log, and of one that leaves row 30 out
+-- ---- what `audit` answers of the log, and of one that leaves row 30 out, whose step takes no room
 
 abbrev accepted_reply : Answer
 accepted_reply = record { status = Yes; text = codes "accepted steps 1\n" }
@@ -229,8 +229,13 @@ accepted_is : accepted_reply ≡ verdict_answer 1 Accepted
 unfolding digits
 accepted_is = refl
 
-pub verdict-crowded : IsVerdict league crowded 1 log accepted_reply
-verdict-crowded = record { verdict = accepted_is; none = λ yes. none_crowded }
+-- the step is an empty clause, which takes 64 bytes
+pub verdict-crowded : IsVerdict league crowded 1 (Some 64) log accepted_reply
+verdict-crowded = record { verdict = accepted_is; within = refl; none = λ yes. none_crowded }
+
+-- where there is room for a byte less, no verdict is said
+pub verdict-tight : (answer : Answer) → IsVerdict league crowded 1 (Some 63) log answer → ⊥
+verdict-tight answer is = let within : false ≡ true = is.within in cc
 
 abbrev rejected_reply : Answer
 rejected_reply = record { status = No; text = codes "rejected step 1 cause NoConflict\n" }
@@ -242,20 +247,20 @@ rejected_is = refl
 no_yes : No ≡ Yes → ⊥
 no_yes is = cc
 
-pub verdict-shorter : IsVerdict league crowded 1 (Clause [] (29 ∷ 6 ∷ []) ∷ []) rejected_reply
-verdict-shorter = record { verdict = rejected_is; none = λ yes. absurd (no_yes yes) }
+pub verdict-shorter : IsVerdict league crowded 1 (Some 0) (Clause [] (29 ∷ 6 ∷ []) ∷ []) rejected_reply
+verdict-shorter = record { verdict = rejected_is; within = refl; none = λ yes. absurd (no_yes yes) }
 
 -- of games that a season keeps no log is accepted
-pub verdict-first : (steps : List Step) (answer : Answer) → answer.status ≡ Yes
-    → IsVerdict league first 1 steps answer → ⊥
-verdict-first steps answer ended is = is.none ended home season-home.resumes
+pub verdict-first : (room : Option ℕ) (steps : List Step) (answer : Answer) → answer.status ≡ Yes
+    → IsVerdict league first 1 room steps answer → ⊥
+verdict-first room steps answer ended is = is.none ended home season-home.resumes
 
-pub audited-crowded : Writes (ended_with Yes (Some (codes "..")) (Some (codes "..accepted steps 1\n"))) (IsVerdict league crowded 1 log)
+pub audited-crowded : Writes (ended_with Yes (Some (codes "..")) (Some (codes "..accepted steps 1\n"))) (IsVerdict league crowded 1 (Some 64) log)
 audited-crowded = record { answer = accepted_reply; of_kind = verdict-crowded; ended = refl; written = refl }
 
 -- whatever ends with yes, a season that is there isn't excluded
-pub audited-first : (steps : List Step) (old new : Option (List ℕ)) → Writes (ended_with Yes old new) (IsVerdict league first 1 steps) → ⊥
-audited-first steps old new is = verdict-first steps is.answer (sym is.ended) is.of_kind
+pub audited-first : (room : Option ℕ) (steps : List Step) (old new : Option (List ℕ)) → Writes (ended_with Yes old new) (IsVerdict league first 1 room steps) → ⊥
+audited-first room steps old new is = verdict-first room steps is.answer (sym is.ended) is.of_kind
 
 -- ---- the stages of `resume` and `audit`, and the files of a run
 
@@ -315,7 +320,7 @@ resumed-stages limits conflicts is = inl (
   inl (lit≤ tt, inl (small, inl (played_file, file_played, (conflicts, is, found-first conflicts)))),
 )
 
-pub audited-stages : audited (store_of contents nowhere) (codes "league") (codes "crowded") 1 (codes "log") accepted_reply
+pub audited-stages : audited (store_of contents nowhere) (Some 64) (codes "league") (codes "crowded") 1 (codes "log") accepted_reply
 unfolding attributes_at pieces_from walk lines_from
 audited-stages = inl (
   league_file,

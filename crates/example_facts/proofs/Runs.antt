@@ -14,6 +14,7 @@ abbrev pub ended_with : Status → Option (List ℕ) → Option (List ℕ) → R
 ended_with ended before after =
     record {
       command = None;
+      room = None;
       may_stop = ⊥;
       store = no_store;
       output = written_between before after;

@@ -5,7 +5,7 @@ use Rattle.clause_search.proofs.TurnLemmas.{All-front}
 use Rattle.clause_search.proofs.SearchLemmas.{AreNews-none}
 use Rattle.std.proofs.Common.{lit<, lit≤, ◌≡◌, ℕ, zero, suc, ◌+◌, ◌<◌, ◌≤◌, Bool, true, false}
 use Rattle.std.proofs.Common.{if◌then◌else◌, List, [], ◌∷◌, ◌++◌, map, drop, length, get_or, Option, Some}
-use Rattle.std.proofs.Common.{codes, refl, arith, IsTrue}
+use Rattle.std.proofs.Common.{codes, refl, arith, subst, IsTrue}
 use Rattle.std.proofs.lemmas.List.Elements.{All-cons, All-from_recursion, All-nil}
 use Rattle.std.proofs.lemmas.List.Kept.{AllPairs-cons}
 use Rattle.std.specs.Fmt.{digits}
@@ -42,6 +42,7 @@ use Rattle.clause_search.specs.News.{IsTidy}
 use Rattle.pattern_search.specs.PatternRows.{pattern_rows}
 use Rattle.decoding.proofs.SeasonLemmas.{accepted_logs_exclude}
 use Rattle.solve.specs.Solutions.{IsSpentOn, IsWritable, RefutesLeague}
+use Rattle.league_search.proofs.FoundLemmas.{more-plain, plain_spent, search-plain}
 
 -- lines, each with its end
 abbrev pub text : List String → List ℕ
@@ -273,13 +274,17 @@ writable-none = record {
 
 -- at the limit 0 the log without steps is spent, and 0 is below 3 to the 8
 pub spent-one_there : IsSpentOn one_there (Some 0) []
-spent-one_there = record {
-  limited = refl;
-  spent = record { count = refl; news = AreNews-none _ _; quiet = (all_free, quiet_pairs (season_pairs ++ one_of 2 4)) };
-  few = lit< tt;
-  tidy = All-nil (IsTidy 8);
-  writable = writable-none;
-}
+spent-one_there =
+    plain_spent one_there (Some 0) [] writable-none (record {
+      limited = refl;
+      spent = record {
+        count = refl;
+        news = AreNews-none _ _;
+        quiet = (all_free, quiet_pairs (season_pairs ++ one_of 2 4));
+      };
+      few = lit< tt;
+      tidy = All-nil (IsTidy 8);
+    })
 
 -- where propagation alone refutes the rows, no log without steps is spent: no values are quiet on rows 29 and 26
 abbrev counts_for : Value → ℕ
@@ -307,26 +312,36 @@ never_quiet values homes once =
 
 pub spent-homes : (limit : Option ℕ) → IsSpentOn homes limit [] → ⊥
 spent-homes limit is =
-    let quiet : IsQuiet is.spent.quiet.0 (rows_of homes) =
-    All-front (IsQuietRow is.spent.quiet.0) (rows_of homes) _ is.spent.quiet.1 in
-    never_quiet is.spent.quiet.0 (quiet 28 (at_least 0 []) (lit< tt)) (quiet 25 (at_least 0 []) (lit< tt))
+    let values : ℕ → Value = is.spent.spent.quiet.0 in
+    let quiet : IsQuiet values (rows_of homes) =
+    subst (λ (rows : List Row). IsQuiet values rows) (more-plain homes [] is.log refl)
+    (All-front (IsQuietRow values) is.log.behind.more _ is.spent.spent.quiet.1) in
+    never_quiet values (quiet 28 (at_least 0 []) (lit< tt)) (quiet 25 (at_least 0 []) (lit< tt))
 
 -- no log is spent at another limit, or one of as many steps as 3 to the 8
 some_one : ◌≡◌ {A = Option ℕ} (Some 1) (Some 0) → ⊥
 some_one is = let same : ◌≡◌ {A = ℕ} 1 0 = cc in omega (arith, same)
 
 pub spent-one : IsSpentOn one_there (Some 1) [] → ⊥
-spent-one is = some_one is.limited
+spent-one is =
+    some_one (subst (λ (steps : List Step). ◌≡◌ {A = Option ℕ} (Some 1) (Some (length steps))) (search-plain one_there [] is.log refl)
+    is.spent.limited)
 
 too_many : (steps : ℕ) → 6561 ≤ steps → steps < 6561 → ⊥
 too_many steps many few = omega (arith, many, few)
 
 pub spent-many : (limit : Option ℕ) (steps : List Step) → 6561 ≤ length steps → IsSpentOn one_there limit steps → ⊥
-spent-many limit steps many is = too_many (length steps) many is.few
+spent-many limit steps many is =
+    too_many (length steps) many
+    (subst (λ (search : List Step). length search < 6561) (search-plain one_there steps is.log refl) is.spent.few)
 
 -- no log is spent that speaks of a ninth variable
 nine_eight : 9 ≤ 8 → ⊥
 nine_eight is = omega (arith, is)
 
 pub spent-ninth : (limit : Option ℕ) (hints : List ℕ) → IsSpentOn one_there limit (Clause (yes 9 ∷ []) hints ∷ []) → ⊥
-spent-ninth limit hints is = nine_eight ((is.tidy 0 (Clause [] []) (lit< tt)).known 0 (yes 9) (lit< tt))
+spent-ninth limit hints is =
+    let steps : List Step = Clause (yes 9 ∷ []) hints ∷ [] in
+    let tidy : All (IsTidy 8) steps =
+    subst (λ (search : List Step). All (IsTidy 8) search) (search-plain one_there steps is.log refl) is.spent.tidy in
+    nine_eight ((tidy 0 (Clause [] []) (lit< tt)).known 0 (yes 9) (lit< tt))

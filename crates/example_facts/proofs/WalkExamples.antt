@@ -3,6 +3,7 @@
 use Rattle.std.proofs.Common.{lit<, lit≤, ◌≡◌, ℕ, ◌-◌, ◌*◌, ◌^◌, ◌≤◌, true, false, if◌then◌else◌}
 use Rattle.std.proofs.Common.{List, [], ◌∷◌, Option, Some, None, Ok, codes, bytes_eq, ap, sym, refl, inl}
 use Rattle.std.proofs.Common.{arith, IsTrue}
+use Rattle.std.proofs.lemmas.List.{append-nil}
 use Rattle.std.specs.Fmt.{digits}
 use Rattle.std.specs.Ordering.{is_le}
 use Rattle.example_facts.proofs.Runs.{ended_with, store_of}
@@ -45,7 +46,7 @@ use Rattle.refutation.specs.Steps.{Step}
 use Rattle.refutation.specs.Steps.Step.{Clause}
 use Rattle.refutation.specs.declared.verdict.Cause.TheVariants.{NoConflict}
 use Rattle.refutation.specs.declared.verdict.Verdict.TheVariants.{Accepted, Rejected}
-use Rattle.command_check.specs.Check.{IsVerdict, IsWellFormedLog, checked, most_log_bytes}
+use Rattle.command_check.specs.Check.{IsVerdict, IsWellFormedLog, LacksRoom, checked, most_log_bytes}
 use Rattle.command_check.specs.Check.{verdict_answer}
 use Rattle.example_facts.proofs.SolveExamples.{accepted_home, false_true, fits_home, home, ordered_home}
 use Rattle.example_facts.proofs.DescentExamples.{lowers-home}
@@ -308,8 +309,13 @@ accepted_is : accepted_reply ≡ verdict_answer 2 Accepted
 unfolding digits
 accepted_is = refl
 
-pub verdict-apart : IsVerdict apart (rows_of apart) alone accepted_reply
-verdict-apart = record { verdict = accepted_is; refuted = λ yes. none-apart }
+-- the steps, a clause of one literal and the empty clause, take 72 and 64 bytes
+pub verdict-apart : IsVerdict apart (rows_of apart) (Some 136) alone accepted_reply
+verdict-apart = record { verdict = accepted_is; within = refl; refuted = λ yes. none-apart }
+
+-- where there is room for a byte less, no verdict is said
+pub verdict-tight : (answer : Answer) → IsVerdict apart (rows_of apart) (Some 135) alone answer → ⊥
+verdict-tight answer is = let within : false ≡ true = is.within in cc
 
 -- the last step without the first: rows 1, 29 and 3 force nothing
 abbrev rejected_reply : Answer
@@ -322,20 +328,20 @@ rejected_is = refl
 no_yes : No ≡ Yes → ⊥
 no_yes is = cc
 
-pub verdict-last : IsVerdict apart (rows_of apart) (Clause [] (1 ∷ 29 ∷ 3 ∷ []) ∷ []) rejected_reply
-verdict-last = record { verdict = rejected_is; refuted = λ yes. absurd (no_yes yes) }
+pub verdict-last : IsVerdict apart (rows_of apart) None (Clause [] (1 ∷ 29 ∷ 3 ∷ []) ∷ []) rejected_reply
+verdict-last = record { verdict = rejected_is; within = refl; refuted = λ yes. absurd (no_yes yes) }
 
 -- over rows of a league that accepts a season nothing is answered by yes
-pub verdict-wishful : (rows : List Row) (steps : List Step) (answer : Answer) → answer.status ≡ Yes
-    → IsVerdict wishful rows steps answer → ⊥
-verdict-wishful rows steps answer ended is = is.refuted ended home accepted_home
+pub verdict-wishful : (rows : List Row) (room : Option ℕ) (steps : List Step) (answer : Answer) → answer.status ≡ Yes
+    → IsVerdict wishful rows room steps answer → ⊥
+verdict-wishful rows room steps answer ended is = is.refuted ended home accepted_home
 
-pub checked-apart : Writes (ended_with Yes (Some []) (Some (codes "accepted steps 2\n"))) (IsVerdict apart (rows_of apart) alone)
+pub checked-apart : Writes (ended_with Yes (Some []) (Some (codes "accepted steps 2\n"))) (IsVerdict apart (rows_of apart) (Some 136) alone)
 checked-apart = record { answer = accepted_reply; of_kind = verdict-apart; ended = refl; written = refl }
 
-pub checked-wishful : (steps : List Step) (old new : Option (List ℕ)) → Writes (ended_with Yes old new) (IsVerdict wishful (rows_of wishful) steps) → ⊥
-checked-wishful steps old new is =
-    verdict-wishful (rows_of wishful) steps is.answer (sym is.ended) is.of_kind
+pub checked-wishful : (room : Option ℕ) (steps : List Step) (old new : Option (List ℕ)) → Writes (ended_with Yes old new) (IsVerdict wishful (rows_of wishful) room steps) → ⊥
+checked-wishful room steps old new is =
+    verdict-wishful (rows_of wishful) room steps is.answer (sym is.ended) is.of_kind
 
 -- the stages of `check` may give that answer
 abbrev never : ℕ → Type 0
@@ -347,6 +353,17 @@ file_league = record { same = refl; within = omega arith }
 file_log : IsFile (contents (codes "log")) most_log_bytes log_file
 file_log = record { same = refl; within = omega arith }
 
-pub checked-stages : checked (store_of contents nowhere) (codes "apart") (codes "log") accepted_reply
+pub checked-stages : checked (store_of contents nowhere) (Some 136) (codes "apart") (codes "log") accepted_reply
 unfolding attributes_at pieces_from walk lines_from
 checked-stages = inl (league_file, file_league, inl (small, inl (log_file, file_log, verdict-apart)))
+
+-- where there is room for a byte less, both steps pass it
+pub lacks-apart : LacksRoom (store_of contents nowhere) (Some 135) (codes "apart") (codes "log")
+unfolding attributes_at pieces_from walk lines_from
+lacks-apart = record {
+  first = league_file;
+  first_file = file_league;
+  league = apart;
+  says_league = says_league;
+  passes = record { front = log_file; begins = ([], sym (append-nil log_file)); passes = (2, lit≤ tt, refl) };
+}

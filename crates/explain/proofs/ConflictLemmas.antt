@@ -103,9 +103,10 @@ none_some a is = cc
 
 not_spent : (league : Instance) (vars : ℕ) (limit : Option ℕ) (log : List Step) → IsAmple vars limit
     → var_count league ≤ vars → IsSpentOn league limit log → ⊥
-not_spent league vars None log ample few is = none_some (length log) is.limited
+not_spent league vars None log ample few is = none_some (length is.log.behind.search) is.spent.limited
 not_spent league vars (Some limit) log ample few is =
-    too_few limit (length log) (var_count league) vars (some_same limit (length log) is.limited) is.few few ample
+    too_few limit (length is.log.behind.search) (var_count league) vars
+    (some_same limit (length is.log.behind.search) is.spent.limited) is.spent.few few ample
 
 -- nor is it where nothing may stop the run
 pub not_spent_by : (league : Instance) (vars : ℕ) (limit : Option ℕ) (may_stop : Type 0) (log : List Step)

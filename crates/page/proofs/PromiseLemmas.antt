@@ -56,11 +56,11 @@ whole ended text faults status written room (inr cut) low =
     let seven : status ≡ 7 = cut.status_is in absurd (omega (arith, seven, low))
 
 -- what the run wrote whole is shown
-shows : (kind : Outcome) (command : Option Command) (files : Files) (taken : ℕ) (text : List ℕ) (faults : ℕ) (ended : Status)
+shows : (kind : Outcome) (words : List (List ℕ)) (files : Files) (taken : ℕ) (text : List ℕ) (faults : ℕ) (ended : Status)
     (status written : ℕ) (room : List ℕ)
-    → Writes (run_over command files taken text faults ended) kind → IsShown ended text faults status written room
+    → Writes (run_over words files taken text faults ended) kind → IsShown ended text faults status written room
     → Shows kind status written room
-shows kind command files taken text faults ended status written room writes shown = record {
+shows kind words files taken text faults ended status written room writes shown = record {
   answer = writes.answer;
   of_kind = writes.of_kind;
   status_is = shown.status_is ∙ ap status_code writes.ended;
@@ -78,9 +78,9 @@ unshown command files status written room high = record {
   unsolvable = λ instance budgets league is says none. absurd (omega (arith, high, none));
 }
 
-by-run : (command : Option Command) (files : Files) (status written : ℕ) (room : List ℕ)
-    → HasRun command files status written room → Promises command files status written room
-by-run command files status written room has = record {
+by-run : (words : List (List ℕ)) (files : Files) (status written : ℕ) (room : List ℕ)
+    → HasRun words files status written room → Promises (reading words) files status written room
+by-run words files status written room has = record {
   judged = λ instance solution league games is first says second tells low.
       let shown = whole has.ended has.text has.faults status written room has.shown low in
       let works = has.ran.works (had-memory has.ended status shown.status_is low) shown.whole (instance ∷ solution ∷ []) in
@@ -95,7 +95,7 @@ by-run command files status written room has = record {
         says_league = says;
         says_games = tells;
       }) works in
-      shows (IsJudgement league games) command files has.ran.taken has.text has.faults has.ended status written room judged shown;
+      shows (IsJudgement league games) words files has.ran.taken has.text has.faults has.ended status written room judged shown;
   refuted = λ instance log league is says yes.
       let shown = whole has.ended has.text has.faults status written room has.shown (omega (arith, yes)) in
       (has.ran.promised.commands.check instance log is).refuted league
@@ -114,4 +114,4 @@ promises words files status written room (inl unread) =
     let ten : status ≡ 10 = unread.0 in unshown (reading (lines words)) files status written room (omega (arith, ten))
 promises words files status written room (inr (inl memory)) =
     let eight : status ≡ 8 = memory.0 in unshown (reading (lines words)) files status written room (omega (arith, eight))
-promises words files status written room (inr (inr has)) = by-run (reading (lines words)) files status written room has
+promises words files status written room (inr (inr has)) = by-run (lines words) files status written room has

@@ -1,21 +1,22 @@
 -- A run over a store and a sink that were new.
-use Rattle.std.proofs.Common.{◌≡◌, ◌≢◌, ℕ, List, [], ◌∷◌, Option, Some, subst, sym, arith}
+use Rattle.std.proofs.Common.{◌≡◌, ◌≢◌, ℕ, List, [], ◌∷◌, subst, sym, arith}
 use Rattle.std.specs.List.{All}
 use Rattle.std.proofs.lemmas.List.Elements.{All-nil, All-cons}
 use Rattle.robin_io.specs.Outside.{output_between, store_between}
-use Rattle.command_line.specs.Words.{Command, reading}
+use Rattle.command_line.specs.Words.{reading}
 use Rattle.answers.specs.declared.status.Status.{Status}
 use Rattle.answers.specs.declared.status.Status.TheVariants.{Memory}
 use Rattle.page_io.specs.Files.{file_named}
 use Rattle.page_io.specs.declared.files.Files.{Files}
-use Rattle.robin_run.specs.Run.{NothingFails, Run}
+use Rattle.robin_run.specs.Run.{NothingFails, Run, step_room}
 use Rattle.page.specs.Ran.{IsPromised, Ran, files_told, run_over, text_told}
 use Rattle.page.specs.Shown.{HasRun, lines}
 
 -- the run from a store that gave so many bytes before, and a sink that held some and failed so often
-abbrev pub run_from : Option Command → Files → ℕ → ℕ → List ℕ → List ℕ → ℕ → ℕ → Status → Run
-run_from command files given taken first text was faults ended = record {
-  command = command;
+abbrev pub run_from : List (List ℕ) → Files → ℕ → ℕ → List ℕ → List ℕ → ℕ → ℕ → Status → Run
+run_from words files given taken first text was faults ended = record {
+  command = reading words;
+  room = step_room words;
   may_stop = ⊥;
   store = store_between (files_told files) given taken;
   output = output_between text_told (first, was) (text, faults);
@@ -24,14 +25,14 @@ run_from command files given taken first text was faults ended = record {
 }
 
 -- where both were new it is the run of a page
-promised-from-new : (command : Option Command) (files held : Files) (given taken : ℕ) (first text : List ℕ) (was faults : ℕ) (ended : Status)
+promised-from-new : (words : List (List ℕ)) (files held : Files) (given taken : ℕ) (first text : List ℕ) (was faults : ℕ) (ended : Status)
     → held ≡ files → given ≡ 0 → first ≡ [] → was ≡ 0
-    → IsPromised (run_from command held given taken first text was faults ended) → IsPromised (run_over command files taken text faults ended)
-promised-from-new command files held given taken first text was faults ended same none empty well promised =
-    subst (λ w. IsPromised (run_from command files 0 taken [] text w faults ended)) well
-    (subst (λ f. IsPromised (run_from command files 0 taken f text was faults ended)) empty
-    (subst (λ g. IsPromised (run_from command files g taken first text was faults ended)) none
-    (subst (λ h. IsPromised (run_from command h given taken first text was faults ended)) same promised)))
+    → IsPromised (run_from words held given taken first text was faults ended) → IsPromised (run_over words files taken text faults ended)
+promised-from-new words files held given taken first text was faults ended same none empty well promised =
+    subst (λ w. IsPromised (run_from words files 0 taken [] text w faults ended)) well
+    (subst (λ f. IsPromised (run_from words files 0 taken f text was faults ended)) empty
+    (subst (λ g. IsPromised (run_from words files g taken first text was faults ended)) none
+    (subst (λ h. IsPromised (run_from words h given taken first text was faults ended)) same promised)))
 
 -- a store of files that a page lends doesn't fail
 never : (files : Files) (taken : ℕ) (name : List ℕ) → (store_between (files_told files) 0 taken).failed name → ⊥
@@ -45,31 +46,31 @@ fails-at-none files taken (name ∷ names) =
     (fails-at-none files taken names)
 
 -- unless memory ran out or the sink failed, nothing fails
-works : (command : Option Command) (files : Files) (taken : ℕ) (text : List ℕ) (faults : ℕ) (ended : Status)
-    → ended ≢ Memory → faults ≡ 0 → (names : List (List ℕ)) → NothingFails (run_over command files taken text faults ended) names
-works command files taken text faults ended memory none names = record {
+works : (words : List (List ℕ)) (files : Files) (taken : ℕ) (text : List ℕ) (faults : ℕ) (ended : Status)
+    → ended ≢ Memory → faults ≡ 0 → (names : List (List ℕ)) → NothingFails (run_over words files taken text faults ended) names
+works words files taken text faults ended memory none names = record {
   memory = memory;
   sink = λ rose. omega (arith, rose, none);
   store = fails-at-none files taken names;
 }
 
 -- what is shown of the sink is what it holds
-pub ran : (command : Option Command) (files held : Files) (given taken : ℕ) (first text : List ℕ) (was faults : ℕ) (ended : Status)
+pub ran : (words : List (List ℕ)) (files held : Files) (given taken : ℕ) (first text : List ℕ) (was faults : ℕ) (ended : Status)
     → held ≡ files → given ≡ 0 → first ≡ [] → was ≡ 0
-    → IsPromised (run_from command held given taken first text was faults ended)
-    → (seen : List ℕ) (counted : ℕ) → seen ≡ text → counted ≡ faults → Ran command files seen counted ended
-ran command files held given taken first text was faults ended same none empty well promised seen counted is_text is_count =
-    let plain : Ran command files text faults ended = record {
+    → IsPromised (run_from words held given taken first text was faults ended)
+    → (seen : List ℕ) (counted : ℕ) → seen ≡ text → counted ≡ faults → Ran words files seen counted ended
+ran words files held given taken first text was faults ended same none empty well promised seen counted is_text is_count =
+    let plain : Ran words files text faults ended = record {
       taken = taken;
-      promised = promised-from-new command files held given taken first text was faults ended same none empty well promised;
-      works = works command files taken text faults ended;
+      promised = promised-from-new words files held given taken first text was faults ended same none empty well promised;
+      works = works words files taken text faults ended;
     } in
-    subst (λ t. Ran command files t counted ended) (sym is_text) (subst (λ f. Ran command files text f ended) (sym is_count) plain)
+    subst (λ t. Ran words files t counted ended) (sym is_text) (subst (λ f. Ran words files text f ended) (sym is_count) plain)
 
 -- a run of the lines of a text is one of the words that are its bytes
 pub answered : (words text : List ℕ) (cut : List (List ℕ)) (files : Files) (status written : ℕ) (room : List ℕ)
-    → text ≡ words → cut ≡ lines text → HasRun (reading cut) files status written room
-    → HasRun (reading (lines words)) files status written room
+    → text ≡ words → cut ≡ lines text → HasRun cut files status written room
+    → HasRun (lines words) files status written room
 answered words text cut files status written room same is_cut has =
-    subst (λ w. HasRun (reading (lines w)) files status written room) same
-    (subst (λ c. HasRun (reading c) files status written room) is_cut has)
+    subst (λ w. HasRun (lines w) files status written room) same
+    (subst (λ c. HasRun c files status written room) is_cut has)

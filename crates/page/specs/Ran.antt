@@ -1,17 +1,17 @@
 -- A run over files that lie in memory, and what holds of it.
-use Rattle.std.specs.Prelude.{◌≡◌, ◌≢◌, ℕ, List, [], Option, Some, None}
+use Rattle.std.specs.Prelude.{◌≡◌, ◌≢◌, ℕ, List, [], Some, None}
 use Rattle.std.specs.Io.KnownBytes.{Keeps}
 use Rattle.robin_io.specs.Outside.{output_between, store_between}
 use Rattle.robin_io.specs.declared.shelf.Shelf as shelf
 use Rattle.robin_io.specs.declared.sink.Sink as sink
-use Rattle.command_line.specs.Words.{Command}
+use Rattle.command_line.specs.Words.{reading}
 use Rattle.answers.specs.declared.status.Status.{Status}
 use Rattle.answers.specs.declared.status.Status.TheVariants.{Memory}
 use Rattle.page_io.specs.Files.{file_named}
 use Rattle.page_io.specs.declared.files.Files.{Files}
 use Rattle.robin_run.specs.Commands.{KeepsPromises}
 use Rattle.robin_run.specs.Ends.{EndsByWords}
-use Rattle.robin_run.specs.Run.{Answered, NothingFails, Run}
+use Rattle.robin_run.specs.Run.{Answered, NothingFails, Run, step_room}
 
 -- a store of these files, seen by how many bytes it gave: it tells each file, and fails at none
 abbrev pub files_told : Files → shelf.Ghosts ℕ
@@ -32,11 +32,12 @@ text_told = record {
   calls = λ held. 0;
 }
 
--- A run of a command over these files, where the store gave so many bytes. The sink held nothing at first, and failed so
+-- A run of these words over these files, where the store gave so many bytes. The sink held nothing at first, and failed so
 -- often. Nothing may stop the run.
-abbrev pub run_over : Option Command → Files → ℕ → List ℕ → ℕ → Status → Run
-run_over command files taken text faults ended = record {
-  command = command;
+abbrev pub run_over : List (List ℕ) → Files → ℕ → List ℕ → ℕ → Status → Run
+run_over words files taken text faults ended = record {
+  command = reading words;
+  room = step_room words;
   may_stop = ⊥;
   store = store_between (files_told files) 0 taken;
   output = output_between text_told ([], 0) (text, faults);
@@ -52,10 +53,10 @@ pub record IsPromised (run : Run) : Type 0 where
   -- Where memory ran out nothing was written.
   pub memory : run.ended ≡ Memory → Keeps run.output.before run.output.after
 
--- A run of this command over these files put this text into its sink, which failed so often, and ended so.
-pub record Ran (command : Option Command) (files : Files) (text : List ℕ) (faults : ℕ) (ended : Status) : Type 0 where
+-- A run of these words over these files put this text into its sink, which failed so often, and ended so.
+pub record Ran (words : List (List ℕ)) (files : Files) (text : List ℕ) (faults : ℕ) (ended : Status) : Type 0 where
   -- how many bytes of the files were taken
   pub taken : ℕ
-  pub promised : IsPromised (run_over command files taken text faults ended)
+  pub promised : IsPromised (run_over words files taken text faults ended)
   -- Unless memory ran out, nothing failed.
-  pub works : ended ≢ Memory → faults ≡ 0 → (names : List (List ℕ)) → NothingFails (run_over command files taken text faults ended) names
+  pub works : ended ≢ Memory → faults ≡ 0 → (names : List (List ℕ)) → NothingFails (run_over words files taken text faults ended) names

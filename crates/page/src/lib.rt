@@ -72,7 +72,7 @@ fn run_words(
     room: &mut [u8],
     lengths: &mut Lengths,
 ) -> u8
-    ensures { HasRun (reading (map string_bytes words.now)) files.now result lengths.new.text room.new }
+    ensures { HasRun (map string_bytes words.now) files.now result lengths.new.text room.new }
 {
     let mut shelf = PageShelf::new(files);
     let mut out = PageSink::new(alloc);

@@ -1,8 +1,9 @@
 -- How many bytes steps take, and whether they keep to a limit.
 use Rattle.std.proofs.Common.{◌≡◌, ℕ, ◌+◌, ◌^◌, ◌<◌, ◌≤◌, ◌||◌, Bool, true, false, List, [], ◌∷◌, ◌++◌, map, length, take}
-use Rattle.std.proofs.Common.{get_or, Option, Some, None, arith, ap, refl, subst, ◌∙◌}
+use Rattle.std.proofs.Common.{get_or, Option, Some, None, arith, ap, inl, inr, refl, subst, ◌∙◌}
 use Rattle.std.specs.Prelude.{nat_le}
 use Rattle.std.specs.List.{fold}
+use Rattle.std.proofs.lemmas.Bool.{cases_lt}
 use Rattle.std.proofs.lemmas.Bool.Decides.{nat_tests}
 use Rattle.std.proofs.lemmas.List.{map-append}
 use Rattle.std.proofs.lemmas.List.Folds.{list_any_more}
@@ -12,7 +13,7 @@ use Rattle.rows.specs.declared.lit.Term.{Term}
 use Rattle.refutation.specs.Steps.{Step}
 use Rattle.refutation_check.specs.Judged.{Judged, JudgedStep, after_step, no_step_of}
 use Rattle.refutation_check.specs.Kept.{judged_step}
-use Rattle.refutation_check.specs.Room.{KeepsRoom, PassesRoom, has_room, has_wide, row_bytes, steps_bytes}
+use Rattle.refutation_check.specs.Room.{KeepsRoom, PassesRoom, StopsInTime, has_room, has_wide, row_bytes, steps_bytes}
 use Rattle.refutation_check.specs.declared.kept.KeptStep.{KeptStep}
 
 -- one more term that has 32 bits
@@ -37,6 +38,20 @@ pub room_of_none : (rows : List Row) (vars : ℕ) (room : Option ℕ) → has_ro
 room_of_none rows vars None = refl
 room_of_none rows vars (Some most) = grind (arith, nat_tests)
 
+-- where a next step keeps room too, each step up to it does
+pub room_up_to : (room : Option ℕ) (old new : Judged) (steps : List Step) (k : ℕ)
+    → new ≡ fold after_step old (take (k + 1) steps) → has_room room new ≡ true
+    → ((j : ℕ) → 1 ≤ j → j ≤ k → has_room room (fold after_step old (take j steps)) ≡ true)
+    → (j : ℕ) → 1 ≤ j → j ≤ k + 1 → has_room room (fold after_step old (take j steps)) ≡ true
+room_up_to room old new steps k next has early j some most =
+    elim (cases_lt k j) [
+      | inl last ↦
+          let same : k + 1 ≡ j = omega (arith, last, most) in
+          subst (λ (n : ℕ). has_room room (fold after_step old (take n steps)) ≡ true) same
+          (subst (λ (s : Judged). has_room room s ≡ true) next has)
+      | inr before ↦ early j some before
+    ]
+
 -- ---- a log's steps, given to a checker that was given none
 
 pub keeps_room : (rows : List Row) (vars : ℕ) (room : Option ℕ) (steps : List Step) (old new : Judged)
@@ -47,7 +62,7 @@ keeps_room rows vars room steps old new none at within =
     (within (ap (λ (s : Judged). has_room room s) none ∙ room_of_none rows vars room))
 
 pub passes_room : (rows : List Row) (vars : ℕ) (room : Option ℕ) (steps : List Step) (old new : Judged)
-    → old ≡ no_step_of rows vars → ((k : ℕ) × (k ≤ length steps) × (new ≡ fold after_step old (take k steps)))
+    → old ≡ no_step_of rows vars → StopsInTime room old steps new
     → has_room room new ≡ false → PassesRoom rows vars room steps
 passes_room rows vars room steps old new none some full = (
   some.0,

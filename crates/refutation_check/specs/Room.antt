@@ -1,5 +1,5 @@
 -- How many bytes the rows of steps count, and whether they keep to a limit.
-use Rattle.std.specs.Prelude.{◌≡◌, ℕ, ◌+◌, ◌*◌, ◌^◌, ◌||◌, ◌≤◌, nat_le, List, length, sum_by, take, Bool, true, false}
+use Rattle.std.specs.Prelude.{◌≡◌, ℕ, ◌+◌, ◌*◌, ◌^◌, ◌||◌, ◌≤◌, ◌<◌, nat_le, List, length, sum_by, take, Bool, true, false}
 use Rattle.std.specs.Prelude.{Option, None, Some, if◌then◌else◌}
 use Rattle.std.specs.List.{fold, list_any}
 use Rattle.rows.specs.Rows.{Row}
@@ -35,3 +35,9 @@ KeepsRoom rows vars room steps = has_room room (fold after_step (no_step_of rows
 abbrev pub PassesRoom : List Row → ℕ → Option ℕ → List Step → Type 0
 PassesRoom rows vars room steps =
     (k : ℕ) × (k ≤ length steps) × (has_room room (fold after_step (no_step_of rows vars) (take k steps)) ≡ false)
+
+-- Some first of these steps were judged. Behind each of them but the last, all steps that followed keep to a limit.
+abbrev pub StopsInTime : Option ℕ → Judged → List Step → Judged → Type 0
+StopsInTime room before steps after =
+    (k : ℕ) × (k ≤ length steps) × (after ≡ fold after_step before (take k steps))
+    × ((j : ℕ) → 1 ≤ j → j < k → has_room room (fold after_step before (take j steps)) ≡ true)

@@ -1,10 +1,10 @@
 //! Whole logs, checked.
-ghost use Rattle.std.specs.Prelude.{◌≡◌, ◌≤◌, ◌<◌, ℕ, length, take, false, true, IfOk, IfSome, IsErrOf, OnErr, OnOk, Ok};
+ghost use Rattle.std.specs.Prelude.{◌≡◌, ◌<◌, length, false, true, IfOk, IfSome, IsErrOf, OnErr, OnOk, Ok};
 ghost use Rattle.std.specs.Prelude.{slice_get};
 ghost use Rattle.std.specs.List.{fold};
 ghost use Rattle.refutation.specs.Verdict.{verdict_of};
 ghost use Rattle.refutation_check.specs.Judged.{after_step};
-ghost use Rattle.refutation_check.specs.Room.{has_room, KeepsRoom, PassesRoom};
+ghost use Rattle.refutation_check.specs.Room.{has_room, KeepsRoom, PassesRoom, StopsInTime};
 ghost use Rattle.refutation_check.specs.Soundness.{HaveNoSolution};
 ghost use Rattle.refutation_check.specs.Within.{AreWithin};
 
@@ -55,13 +55,12 @@ pub fn check_within(
 ///
 /// # Errors
 /// `Full` exactly where they take more, unless `Mem`, where memory runs out. Then the checker has judged some first of
-/// these steps.
+/// these steps, and none behind the first with which they take more.
 pub fn give_all(checker: &mut Checker<'_>, log: &Log, room: Option<u128>) -> Result<(), StepsFault>
     ensures ok { OnOk result (checker.new ≡ fold after_step checker.old log.now) }
     ensures within { OnOk result (has_room room checker.old ≡ true → has_room room checker.new ≡ true) }
     ensures full { IsErrOf result StepsFault.Full → has_room room checker.new ≡ false }
-    ensures err { OnErr result
-        ((k : ℕ) × (k ≤ length log.now) × (checker.new ≡ fold after_step checker.old (take k log.now))) }
+    ensures err { OnErr result (StopsInTime room checker.old log.now checker.new) }
 {
     for k in 0..log.len() {
         give_step(checker, log, k)?;

@@ -1,5 +1,5 @@
 -- What `prove` and `bound` promise is kept.
-use Rattle.std.proofs.Common.{◌∷◌, [], ◌≡◌, ℕ, ◌+◌, List, ◌++◌, length, decimal, Option, Some, Result, Ok, Err, codes, ap, inl}
+use Rattle.std.proofs.Common.{◌∷◌, [], ◌≡◌, ◌⊎◌, ℕ, ◌+◌, List, ◌++◌, length, decimal, Option, Some, Result, Ok, Err, codes, ap, inl}
 use Rattle.std.proofs.Common.{inr, refl, sym, subst, ◌∙◌}
 use Rattle.std.specs.Io.KnownBytes.{Appends}
 use Rattle.std.specs.Prelude.{IfSome}
@@ -13,7 +13,8 @@ use Rattle.league.specs.declared.game.Game.{Game}
 use Rattle.command_line.specs.Words.Command.{Bound, Prove}
 use Rattle.answers.specs.Reply.{Answer}
 use Rattle.answers.specs.Stages.{Outcome, says, takes}
-use Rattle.answers.specs.declared.status.Status.TheVariants.{Yes, No, Better, File, Spent}
+use Rattle.answers.specs.declared.status.Status.{Status}
+use Rattle.answers.specs.declared.status.Status.TheVariants.{Yes, No, Better, File, ReadFault, Spent}
 use Rattle.answers.proofs.StageLemmas.{takes-yes, says-known}
 use Rattle.refutation.specs.Logs.{Fault}
 use Rattle.refutation.specs.declared.verdict.Verdict.{Verdict}
@@ -21,11 +22,11 @@ use Rattle.refutation.specs.declared.verdict.Verdict.TheVariants.{Accepted, Reje
 use Rattle.command_check.specs.Check.{most_log_bytes}
 use Rattle.bounds.specs.Certificates.{certificate_of}
 use Rattle.bounds.specs.declared.certificate.Certificate.{Certificate}
-use Rattle.command_prove.specs.Bound.{IsBoundVerdict, bound_answer, bound_verdict}
+use Rattle.command_prove.specs.Bound.{IsBoundVerdict, IsWellFormedCertificate, IsWithinRoom, bound_answer, bound_verdict}
 use Rattle.command_prove.specs.Bound.{bounded, has_few_terms, says_certificate}
-use Rattle.command_prove.proofs.BoundAnswers.{bounded-well_formed}
+use Rattle.command_prove.proofs.BoundAnswers.{bounded-known, bounded-well_formed}
 use Rattle.command_prove.specs.Prove as proving
-use Rattle.command_prove.specs.Prove.{IsLeast, IsShownBy, proved}
+use Rattle.command_prove.specs.Prove.{IsLeast, IsLeastByFloor, IsShownBy, proved}
 use Rattle.command_prove.proofs.ProveAnswers.{ShowsAs, proved-known, proved-well_formed}
 use Rattle.command_resume.specs.Seasons.{SaySeason}
 use Rattle.robin_run.specs.Bound.{Bounds, IsCertified}
@@ -35,14 +36,21 @@ use Rattle.robin_run.proofs.RunLemmas.{writes, writes-as}
 
 -- ---- `prove`
 
-unbettered : (league : Instance) (conflicts : Option ℕ) (games : List Game) (answer : Answer)
-    (output : Output) → IsLeast league conflicts games answer → Appends output.before output.after answer.text
-    → IsUnbettered league games output
-unbettered league conflicts games answer output shown written = record {
+unbettered : (league : Instance) (conflicts : Option ℕ) (games : List Game) (answer : Answer) (output : Output)
+    → IsLeast league conflicts games answer ⊎ IsLeastByFloor league conflicts games answer
+    → Appends output.before output.after answer.text → IsUnbettered league games output
+unbettered league conflicts games answer output (inl shown) written = record {
   steps = shown.steps;
   accepted = shown.accepted;
   least = shown.least;
   certified = shown.proves;
+  written = subst (λ (text : List ℕ). Appends output.before output.after text) shown.text written;
+}
+unbettered league conflicts games answer output (inr shown) written = record {
+  steps = shown.floor;
+  accepted = shown.accepted;
+  least = shown.certified.least;
+  certified = shown.certified.proves;
   written = subst (λ (text : List ℕ). Appends output.before output.after text) shown.text written;
 }
 
@@ -66,6 +74,7 @@ floored league conflicts games answer output shown written = record {
   steps = shown.steps;
   accepted = shown.accepted;
   least = shown.certified.least;
+  below = shown.below;
   certified = shown.certified.proves;
   reads_back = shown.certified.reads_back;
   written = subst (λ (text : List ℕ). Appends output.before output.after text) shown.text written;
@@ -116,10 +125,10 @@ accepted-text : (bound steps : ℕ) (verdict : Verdict) → (bound_answer bound 
 accepted-text bound steps Accepted is = refl
 accepted-text bound steps (Rejected step cause) is = let same : No ≡ Yes = is in absurd (cc)
 
-verdict-certified : (league : Instance) (certificate : Certificate) (answer : Answer) (output : Output)
-    → answer.status ≡ Yes → Appends output.before output.after answer.text → IsBoundVerdict league certificate answer
-    → IsCertified league output
-verdict-certified league certificate answer output accepted written verdict =
+verdict-certified : (league : Instance) (room : Option ℕ) (certificate : Certificate) (answer : Answer)
+    (output : Output) → answer.status ≡ Yes → Appends output.before output.after answer.text
+    → IsBoundVerdict league room certificate answer → IsCertified league output
+verdict-certified league room certificate answer output accepted written verdict =
     let text : answer.text ≡ accepted_line certificate.bound (length certificate.log) =
     ap (λ (a : Answer). a.text) verdict.verdict
     ∙ accepted-text certificate.bound (length certificate.log)
@@ -132,57 +141,80 @@ verdict-certified league certificate answer output accepted written verdict =
       written = subst (λ (t : List ℕ). Appends output.before output.after t) text written;
     }
 
-said-certified : (league : Instance) (said : Result Certificate Fault) (answer : Answer) (output : Output)
-    → answer.status ≡ Yes → Appends output.before output.after answer.text → says_certificate said (IsBoundVerdict league) answer
-    → IsCertified league output
-said-certified league (Ok certificate) answer output accepted written verdict =
-    verdict-certified league certificate answer output accepted written verdict
-said-certified league (Err fault) answer output accepted written is =
+said-certified : (league : Instance) (room : Option ℕ) (said : Result Certificate Fault) (answer : Answer)
+    (output : Output) → answer.status ≡ Yes → Appends output.before output.after answer.text
+    → says_certificate said (IsBoundVerdict league room) answer → IsCertified league output
+said-certified league room (Ok certificate) answer output accepted written verdict =
+    verdict-certified league room certificate answer output accepted written verdict
+said-certified league room (Err fault) answer output accepted written is =
     let same : File ≡ Yes = sym (ap (λ (a : Answer). a.status) is) ∙ accepted in absurd (cc)
 
 -- the stages behind the league, where the instance file had so many bytes
-abbrev certificate_from : Store → List ℕ → List ℕ → Instance
-    → Outcome
-certificate_from store log first league =
+abbrev certificate_from : Store → Option ℕ → List ℕ → List ℕ → Instance → Outcome
+certificate_from store room log first league =
     has_few_terms league
     (λ few. takes (codes "log") (store.contents log) most_log_bytes (store.took_more (length first + most_log_bytes)) (store.failed log)
-    (λ second. says_certificate (certificate_of second) (IsBoundVerdict league)))
+    (λ second. says_certificate (certificate_of second) (IsBoundVerdict league room)))
 
-few-certified : (store : Store)
+few-certified : (store : Store) (room : Option ℕ)
     (log first : List ℕ) (league : Instance) (answer : Answer) (output : Output) → answer.status ≡ Yes
-    → Appends output.before output.after answer.text → certificate_from store log first league answer
+    → Appends output.before output.after answer.text → certificate_from store room log first league answer
     → IsCertified league output
-few-certified store log first league answer output accepted written (inl h) =
+few-certified store room log first league answer output accepted written (inl h) =
     let read = takes-yes (codes "log") (store.contents log) most_log_bytes (store.took_more (length first + most_log_bytes))
-    (store.failed log) (λ second. says_certificate (certificate_of second) (IsBoundVerdict league)) answer accepted h.1 in
-    said-certified league (certificate_of read.0) answer output accepted written read.2
-few-certified store log first league answer output accepted written (inr h) =
+    (store.failed log) (λ second. says_certificate (certificate_of second) (IsBoundVerdict league room)) answer accepted h.1 in
+    said-certified league room (certificate_of read.0) answer output accepted written read.2
+few-certified store room log first league answer output accepted written (inr h) =
     let same : File ≡ Yes = sym (ap (λ (a : Answer). a.status) h.1) ∙ accepted in absurd (cc)
 
-bounded-certified : (store : Store)
+bounded-certified : (store : Store) (room : Option ℕ)
     (instance log bytes : List ℕ) (league : Instance) (answer : Answer) (output : Output)
     → store.contents instance ≡ Some bytes → instance_of (pieces bytes) ≡ Ok league → answer.status ≡ Yes
-    → Appends output.before output.after answer.text → bounded store instance log answer → IsCertified league output
-bounded-certified store instance log bytes league answer output known says_league accepted written
+    → Appends output.before output.after answer.text → bounded store room instance log answer → IsCertified league output
+bounded-certified store room instance log bytes league answer output known says_league accepted written
     given =
     let next : List ℕ → Outcome =
     λ first. says (codes "instance") (instance_of (pieces first))
-    (certificate_from store log first) in
+    (certificate_from store room log first) in
     let read = takes-yes (codes "instance") (store.contents instance) INSTANCE_LIMIT (store.took_more INSTANCE_LIMIT)
     (store.failed instance) next answer accepted given in
     let same : read.0 ≡ bytes = subst (λ (k : Option (List ℕ)). IfSome k (λ file. read.0 ≡ file)) known read.1.same in
     let at_instance : next bytes answer = subst (λ (b : List ℕ). next b answer) same read.2 in
-    few-certified store log bytes league answer output accepted written
+    few-certified store room log bytes league answer output accepted written
     (says-known (codes "instance") (instance_of (pieces bytes)) league
-    (certificate_from store log bytes) answer says_league at_instance)
+    (certificate_from store room log bytes) answer says_league at_instance)
+
+-- an answer with this status, which no refused file has, is the verdict on a certificate that is known
+told-within : (store : Store) (room : Option ℕ) (instance log : List ℕ) (league : Instance) (certificate : Certificate)
+    (answer : Answer) (status : Status) → IsWellFormedCertificate store instance log league certificate
+    → answer.status ≡ status → (status ≡ File → ⊥) → (status ≡ ReadFault → ⊥) → bounded store room instance log answer
+    → IsWithinRoom league room certificate
+told-within store room instance log league certificate answer status good is no_file no_fault given =
+    (bounded-known store room instance log good.first good.second league certificate answer good.first_known
+    good.second_known good.says_league good.says_certificate (λ file. no_file (sym is ∙ file))
+    (λ fault. no_fault (sym is ∙ fault)) given).within
+
+within-room : (run : Run) → Answered run → (instance log : List ℕ) → run.command ≡ Some (Bound instance log)
+    → (league : Instance) (certificate : Certificate)
+    → IsWellFormedCertificate run.store instance log league certificate
+    → (run.ended ≡ Yes) ⊎ (run.ended ≡ No) → IsWithinRoom league run.room certificate
+within-room run answered instance log is league certificate good (inl ended) =
+    let whole = writes-as run (Bound instance log) Yes answered is ended (λ same. cc) (λ same. cc) in
+    told-within run.store run.room instance log league certificate whole.answer Yes good whole.status_is (λ same. cc)
+    (λ same. cc) whole.given
+within-room run answered instance log is league certificate good (inr ended) =
+    let whole = writes-as run (Bound instance log) No answered is ended (λ same. cc) (λ same. cc) in
+    told-within run.store run.room instance log league certificate whole.answer No good whole.status_is (λ same. cc)
+    (λ same. cc) whole.given
 
 pub bounds : (run : Run) → Answered run → Bounds run
 bounds run answered instance log is = record {
   bounded = λ league certificate good works.
-      writes run (instance ∷ log ∷ []) (Bound instance log) (IsBoundVerdict league certificate) answered is works
-      (λ answer given. bounded-well_formed run.store instance log league certificate answer good works.store given);
+      writes run (instance ∷ log ∷ []) (Bound instance log) (IsBoundVerdict league run.room certificate) answered is works
+      (λ answer given. bounded-well_formed run.store run.room instance log league certificate answer good works.store given);
   certified = λ league said ended.
       let whole = writes-as run (Bound instance log) Yes answered is ended (λ same. cc) (λ same. cc) in
-      bounded-certified run.store instance log said.bytes league whole.answer run.output said.known said.says_league
-      whole.status_is whole.written whole.given;
+      bounded-certified run.store run.room instance log said.bytes league whole.answer run.output said.known
+      said.says_league whole.status_is whole.written whole.given;
+  within = λ league certificate good ended. within-room run answered instance log is league certificate good ended;
 }

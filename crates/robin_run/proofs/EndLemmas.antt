@@ -213,19 +213,18 @@ log-ends Ends file fault known long failed next answer later given =
     (λ bytes at_bytes. said_log-ends Ends file (log_of bytes) next answer later at_bytes) given
 
 checked-ends : (Ends : Status → Type 0) → Ends File → Ends ReadFault → Ends Yes → Ends No
-    → (store : Store)
-    (instance log : List ℕ) (answer : Answer) → checked store instance log answer
-    → Ends answer.status
-checked-ends Ends file fault ends_yes ends_no store instance log answer given =
+    → (store : Store) (room : Option ℕ) (instance log : List ℕ) (answer : Answer)
+    → checked store room instance log answer → Ends answer.status
+checked-ends Ends file fault ends_yes ends_no store room instance log answer given =
     league-ends Ends file fault (store.contents instance) (store.took_more INSTANCE_LIMIT) (store.failed instance)
     (λ first league. encodes league
     (λ rows. takes (codes "log") (store.contents log) most_log_bytes (store.took_more (length first + most_log_bytes)) (store.failed log)
-    (λ bytes. says_log (log_of bytes) (IsVerdict league rows)))) answer
+    (λ bytes. says_log (log_of bytes) (IsVerdict league rows room)))) answer
     (λ first league at_league. encodes-ends Ends file league
     (λ rows. takes (codes "log") (store.contents log) most_log_bytes (store.took_more (length first + most_log_bytes)) (store.failed log)
-    (λ bytes. says_log (log_of bytes) (IsVerdict league rows))) answer
+    (λ bytes. says_log (log_of bytes) (IsVerdict league rows room))) answer
     (λ rows at_rows. log-ends Ends file fault (store.contents log) (store.took_more (length first + most_log_bytes)) (store.failed log)
-    (IsVerdict league rows) answer
+    (IsVerdict league rows room) answer
     (λ steps verdict. ends-as Ends answer _ verdict.verdict (verdict-ends Ends ends_yes ends_no (length steps) _))
     at_rows)
     at_league) given
@@ -349,9 +348,11 @@ shown-ends Ends ends_yes ends_no better spent league conflicts may_stop games an
     ends-with Ends answer No rejected.status ends_no
 shown-ends Ends ends_yes ends_no better spent league conflicts may_stop games answer (inr (inl least)) =
     ends-with Ends answer Yes least.status ends_yes
-shown-ends Ends ends_yes ends_no better spent league conflicts may_stop games answer (inr (inr (inl bettered))) =
+shown-ends Ends ends_yes ends_no better spent league conflicts may_stop games answer (inr (inr (inl least))) =
+    ends-with Ends answer Yes least.status ends_yes
+shown-ends Ends ends_yes ends_no better spent league conflicts may_stop games answer (inr (inr (inr (inl bettered)))) =
     ends-with Ends answer Better bettered.status better
-shown-ends Ends ends_yes ends_no better spent league conflicts may_stop games answer (inr (inr (inr log))) =
+shown-ends Ends ends_yes ends_no better spent league conflicts may_stop games answer (inr (inr (inr (inr log)))) =
     ends-with Ends answer Spent log.status spent
 
 proved-ends : (Ends : Status → Type 0) → Ends File → Ends ReadFault → Ends Yes → Ends No → Ends Better → Ends Spent
@@ -389,21 +390,21 @@ said_certificate-ends Ends file (Ok certificate) next answer later given = later
 said_certificate-ends Ends file (Err fault) next answer later given = ends-as Ends answer _ given file
 
 bounded-ends : (Ends : Status → Type 0) → Ends File → Ends ReadFault → Ends Yes → Ends No
-    → (store : Store)
-    (instance log : List ℕ) (answer : Answer) → bounded store instance log answer
+    → (store : Store) (room : Option ℕ)
+    (instance log : List ℕ) (answer : Answer) → bounded store room instance log answer
     → Ends answer.status
-bounded-ends Ends file fault ends_yes ends_no store instance log answer given =
+bounded-ends Ends file fault ends_yes ends_no store room instance log answer given =
     league-ends Ends file fault (store.contents instance) (store.took_more INSTANCE_LIMIT) (store.failed instance)
     (λ first league. has_few_terms league
     (λ few. takes (codes "log") (store.contents log) most_log_bytes (store.took_more (length first + most_log_bytes)) (store.failed log)
-    (λ second. says_certificate (certificate_of second) (IsBoundVerdict league)))) answer
+    (λ second. says_certificate (certificate_of second) (IsBoundVerdict league room)))) answer
     (λ first league at_league. few-ends Ends file league
     (λ few. takes (codes "log") (store.contents log) most_log_bytes (store.took_more (length first + most_log_bytes)) (store.failed log)
-    (λ second. says_certificate (certificate_of second) (IsBoundVerdict league))) answer
+    (λ second. says_certificate (certificate_of second) (IsBoundVerdict league room))) answer
     (λ at_few. read-ends Ends file fault (codes "log") (store.contents log) most_log_bytes
     (store.took_more (length first + most_log_bytes)) (store.failed log)
-    (λ second. says_certificate (certificate_of second) (IsBoundVerdict league)) answer
-    (λ second at_second. said_certificate-ends Ends file (certificate_of second) (IsBoundVerdict league) answer
+    (λ second. says_certificate (certificate_of second) (IsBoundVerdict league room)) answer
+    (λ second at_second. said_certificate-ends Ends file (certificate_of second) (IsBoundVerdict league room) answer
     (λ certificate verdict. ends-as Ends answer _ verdict.verdict
     (bound_verdict-ends Ends ends_yes ends_no certificate.bound (length certificate.log)
     (bound_verdict league certificate.bound certificate.log))) at_second) at_few) at_league) given
@@ -493,15 +494,15 @@ neared-ends Ends file fault ends_yes refuted spent store instance solution k lim
     given
 
 audited-ends : (Ends : Status → Type 0) → Ends File → Ends ReadFault → Ends Yes → Ends No
-    → (store : Store)
+    → (store : Store) (room : Option ℕ)
     (instance solution : List ℕ) (k : ℕ) (log : List ℕ) (answer : Answer)
-    → audited store instance solution k log answer → Ends answer.status
-audited-ends Ends file fault ends_yes ends_no store instance solution k log answer given =
+    → audited store room instance solution k log answer → Ends answer.status
+audited-ends Ends file fault ends_yes ends_no store room instance solution k log answer given =
     plays-ends Ends file fault store instance solution k
     (λ league played bytes. takes (codes "log") (store.contents log) most_log_bytes (store.took_more (bytes + most_log_bytes))
-    (store.failed log) (λ third. says_log (log_of third) (auditing.IsVerdict league played k))) answer
+    (store.failed log) (λ third. says_log (log_of third) (auditing.IsVerdict league played k room))) answer
     (λ league played bytes at_season. log-ends Ends file fault (store.contents log) (store.took_more (bytes + most_log_bytes))
-    (store.failed log) (auditing.IsVerdict league played k) answer
+    (store.failed log) (auditing.IsVerdict league played k room) answer
     (λ steps verdict. ends-as Ends answer _ verdict.verdict (verdict-ends Ends ends_yes ends_no (length steps) _))
     at_season) given
 
@@ -572,77 +573,78 @@ tried-ends Ends file ends_yes n seed budgets may_stop answer given =
 abbrev EndsBy : Option Command → Status → Type 0
 EndsBy words status = may_end words status ≡ true
 
-answer-ends : (may_stop : Type 0) (words : Option Command) (store : Store) (answer : Answer) → IsAnswer may_stop words store answer
-    → EndsBy words answer.status
-answer-ends may_stop None store answer given = ends-as (EndsBy None) answer _ given refl
-answer-ends may_stop (Some (Validate instance solution)) store answer given =
+answer-ends : (may_stop : Type 0) (room : Option ℕ) (words : Option Command) (store : Store) (answer : Answer)
+    → IsAnswer may_stop room words store answer → EndsBy words answer.status
+answer-ends may_stop room None store answer given = ends-as (EndsBy None) answer _ given refl
+answer-ends may_stop room (Some (Validate instance solution)) store answer given =
     validated-ends (EndsBy (Some (Validate instance solution))) refl refl refl refl store instance
     solution answer given
-answer-ends may_stop (Some (Show instance solution most width)) store answer given =
+answer-ends may_stop room (Some (Show instance solution most width)) store answer given =
     seen-ends (EndsBy (Some (Show instance solution most width))) refl refl refl refl store instance
     solution (Text most width) answer given
-answer-ends may_stop (Some (Demands instance members)) store answer given =
+answer-ends may_stop room (Some (Demands instance members)) store answer given =
     demanded-ends (EndsBy (Some (Demands instance members))) refl refl refl store instance members answer given
-answer-ends may_stop (Some (Sheet instance solution)) store answer given =
+answer-ends may_stop room (Some (Sheet instance solution)) store answer given =
     seen-ends (EndsBy (Some (Sheet instance solution))) refl refl refl refl store instance
     solution Csv answer given
-answer-ends may_stop (Some (Check instance log)) store answer given =
-    checked-ends (EndsBy (Some (Check instance log))) refl refl refl refl store instance log answer
+answer-ends may_stop room (Some (Check instance log)) store answer given =
+    checked-ends (EndsBy (Some (Check instance log))) refl refl refl refl store room instance log answer
     given
-answer-ends may_stop (Some (Solve instance budgets)) store answer given =
+answer-ends may_stop room (Some (Solve instance budgets)) store answer given =
     solved-ends (EndsBy (Some (Solve instance budgets))) refl refl refl refl refl store instance
     budgets may_stop answer given
-answer-ends may_stop (Some (SolveFrom instance solution budgets)) store answer given =
+answer-ends may_stop room (Some (SolveFrom instance solution budgets)) store answer given =
     begun-ends (EndsBy (Some (SolveFrom instance solution budgets))) refl refl refl refl refl refl store instance
     solution budgets may_stop answer given
-answer-ends may_stop (Some (Patterns instance conflicts)) store answer given =
+answer-ends may_stop room (Some (Patterns instance conflicts)) store answer given =
     patterned-ends (EndsBy (Some (Patterns instance conflicts))) refl refl refl refl refl store
     instance conflicts answer given
-answer-ends may_stop (Some (Explain instance conflicts)) store answer given =
+answer-ends may_stop room (Some (Explain instance conflicts)) store answer given =
     explained-ends (EndsBy (Some (Explain instance conflicts))) refl refl refl refl refl store
     instance conflicts may_stop answer given
-answer-ends may_stop (Some (Part instance members)) store answer given =
+answer-ends may_stop room (Some (Part instance members)) store answer given =
     parted-ends (EndsBy (Some (Part instance members))) refl refl refl store instance members answer
     given
-answer-ends may_stop (Some (Prove instance solution conflicts)) store answer given =
+answer-ends may_stop room (Some (Prove instance solution conflicts)) store answer given =
     proved-ends (EndsBy (Some (Prove instance solution conflicts))) refl refl refl refl refl refl store instance solution
     (IsKeptTo conflicts may_stop) may_stop answer given
-answer-ends may_stop (Some (Bound instance log)) store answer given =
-    bounded-ends (EndsBy (Some (Bound instance log))) refl refl refl refl store instance log answer
+answer-ends may_stop room (Some (Bound instance log)) store answer given =
+    bounded-ends (EndsBy (Some (Bound instance log))) refl refl refl refl store room instance log answer
     given
-answer-ends may_stop (Some (Resume instance solution k conflicts)) store answer given =
+answer-ends may_stop room (Some (Resume instance solution k conflicts)) store answer given =
     resumed-ends (EndsBy (Some (Resume instance solution k conflicts))) refl refl refl refl refl store instance solution
     k (IsKeptTo conflicts may_stop) answer given
-answer-ends may_stop (Some (ResumeNear instance solution k budgets)) store answer given =
+answer-ends may_stop room (Some (ResumeNear instance solution k budgets)) store answer given =
     neared-ends (EndsBy (Some (ResumeNear instance solution k budgets))) refl refl refl refl refl store instance solution
     k (IsKeptTo budgets.conflicts may_stop) may_stop answer given
-answer-ends may_stop (Some (Audit instance solution k log)) store answer given =
-    audited-ends (EndsBy (Some (Audit instance solution k log))) refl refl refl refl store instance
+answer-ends may_stop room (Some (Audit instance solution k log)) store answer given =
+    audited-ends (EndsBy (Some (Audit instance solution k log))) refl refl refl refl store room instance
     solution k log answer given
-answer-ends may_stop (Some (Rows instance goal)) store answer given =
+answer-ends may_stop room (Some (Rows instance goal)) store answer given =
     rowed-ends (EndsBy (Some (Rows instance goal))) refl refl refl store instance goal answer given
-answer-ends may_stop (Some (Values instance values)) store answer given =
+answer-ends may_stop room (Some (Values instance values)) store answer given =
     valued-ends (EndsBy (Some (Values instance values))) refl refl refl refl store instance values answer given
-answer-ends may_stop (Some (Circle n)) store answer given =
+answer-ends may_stop room (Some (Circle n)) store answer given =
     ends-as (EndsBy (Some (Circle n))) answer _ given refl
-answer-ends may_stop (Some (Make n seed)) store answer given =
+answer-ends may_stop room (Some (Make n seed)) store answer given =
     ends-as (EndsBy (Some (Make n seed))) answer _ given.made refl
-answer-ends may_stop (Some (Trial n seed budgets)) store answer given =
+answer-ends may_stop room (Some (Trial n seed budgets)) store answer given =
     tried-ends (EndsBy (Some (Trial n seed budgets))) refl refl n seed budgets may_stop answer given
-answer-ends may_stop (Some (Help topic)) store answer given = ends-as (EndsBy (Some (Help topic))) answer _ given refl
-answer-ends may_stop (Some Version) store answer given = ends-as (EndsBy (Some Version)) answer _ given refl
+answer-ends may_stop room (Some (Help topic)) store answer given = ends-as (EndsBy (Some (Help topic))) answer _ given refl
+answer-ends may_stop room (Some Version) store answer given = ends-as (EndsBy (Some Version)) answer _ given refl
 
-written-ends : (may_stop : Type 0) (words : Option Command) (store : Store) (answer : Answer) (ended : Status) (output : Output)
-    → IsAnswer may_stop words store answer → IsWritten answer ended output → (ended ≡ WriteFault → ⊥) → may_end words ended ≡ true
-written-ends may_stop words store answer ended output answered (inl h) whole =
-    subst (EndsBy words) (sym h.0) (answer-ends may_stop words store answer answered)
-written-ends may_stop words store answer ended output answered (inr h) whole = absurd (whole h.0)
+written-ends : (may_stop : Type 0) (room : Option ℕ) (words : Option Command) (store : Store) (answer : Answer)
+    (ended : Status) (output : Output)
+    → IsAnswer may_stop room words store answer → IsWritten answer ended output → (ended ≡ WriteFault → ⊥) → may_end words ended ≡ true
+written-ends may_stop room words store answer ended output answered (inl h) whole =
+    subst (EndsBy words) (sym h.0) (answer-ends may_stop room words store answer answered)
+written-ends may_stop room words store answer ended output answered (inr h) whole = absurd (whole h.0)
 
 -- a run whose text is written whole ends as its words may
 pub ends-by-words : (run : Run) → Answered run → EndsByWords run
 ends-by-words run answered memory whole =
     let told = answered memory in
-    written-ends run.may_stop run.command run.store told.0 run.ended run.output told.1 told.2 whole
+    written-ends run.may_stop run.room run.command run.store told.0 run.ended run.output told.1 told.2 whole
 
 no_memory : (words : Option Command) → may_end words Memory ≡ false
 no_memory None = refl
@@ -670,12 +672,13 @@ no_memory (Some (Help topic)) = refl
 no_memory (Some Version) = refl
 
 -- where an answer is written, the run doesn't end as want of memory does
-pub written-memory : (may_stop : Type 0) (words : Option Command) (store : Store) (answer : Answer) (ended : Status) (output : Output)
-    → IsAnswer may_stop words store answer → IsWritten answer ended output → ended ≡ Memory → ⊥
-written-memory may_stop words store answer ended output answered (inl h) memory =
+pub written-memory : (may_stop : Type 0) (room : Option ℕ) (words : Option Command) (store : Store) (answer : Answer)
+    (ended : Status) (output : Output)
+    → IsAnswer may_stop room words store answer → IsWritten answer ended output → ended ≡ Memory → ⊥
+written-memory may_stop room words store answer ended output answered (inl h) memory =
     let may : may_end words Memory ≡ true =
-    subst (EndsBy words) (sym h.0 ∙ memory) (answer-ends may_stop words store answer answered) in
+    subst (EndsBy words) (sym h.0 ∙ memory) (answer-ends may_stop room words store answer answered) in
     let none : may_end words Memory ≡ false = no_memory words in
     cc
-written-memory may_stop words store answer ended output answered (inr h) memory =
+written-memory may_stop room words store answer ended output answered (inr h) memory =
     let same : WriteFault ≡ Memory = sym h.0 ∙ memory in cc

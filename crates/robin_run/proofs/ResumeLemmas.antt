@@ -1,5 +1,5 @@
 -- What `resume`, `resume --near` and `audit` promise is kept.
-use Rattle.std.proofs.Common.{◌≡◌, ◌∷◌, [], ℕ, List, Ok, subst}
+use Rattle.std.proofs.Common.{◌≡◌, ◌∷◌, [], ℕ, List, Ok, inl, inr, subst}
 use Rattle.std.specs.Io.KnownBytes.{Appends}
 use Rattle.robin_io.specs.Outside.{Output}
 use Rattle.robin_watch.specs.Limits.{IsKeptTo}
@@ -10,11 +10,12 @@ use Rattle.robinx_form.specs.SolutionFile.{solution_of}
 use Rattle.robin_watch.specs.declared.budgets.Budgets.{Budgets}
 use Rattle.command_line.specs.Words.Command.{Audit, Resume, ResumeNear}
 use Rattle.answers.specs.Reply.{Answer}
-use Rattle.answers.specs.declared.status.Status.TheVariants.{Yes, Refuted}
+use Rattle.answers.specs.declared.status.Status.TheVariants.{Yes, No, Refuted}
+use Rattle.command_check.proofs.AnswerLemmas.{answered-as}
 use Rattle.command_resume.specs.Audited.{IsVerdict}
 use Rattle.command_resume.specs.Near.{IsKeptNear, IsNearBy, IsNearSeason}
 use Rattle.command_resume.specs.Resumed.{IsFoundBy, IsKeptSeason, IsPlanned}
-use Rattle.command_resume.proofs.AnswerLemmas.{audited-excluded, audited-well_formed, resumed-excluded, resumed-planned}
+use Rattle.command_resume.proofs.AnswerLemmas.{audited-excluded, audited-kept, audited-well_formed, resumed-excluded, resumed-planned}
 use Rattle.command_resume.proofs.AnswerLemmas.{neared-excluded, neared-season, neared-well_formed, resumed-well_formed}
 use Rattle.robin_run.specs.Audit.{Audits}
 use Rattle.robin_run.specs.Resume.{Resumes}
@@ -88,11 +89,22 @@ resumes-near run answered instance solution k budgets is = record {
 pub audits : (run : Run) → Answered run → Audits run
 audits run answered instance solution k log is = record {
   audited = λ league played steps good works.
-      writes run (instance ∷ solution ∷ log ∷ []) (Audit instance solution k log) (IsVerdict league played k steps)
+      writes run (instance ∷ solution ∷ log ∷ []) (Audit instance solution k log) (IsVerdict league played k run.room steps)
       answered is works
-      (λ answer given. audited-well_formed run.store instance solution k log league played steps answer good works.store
+      (λ answer given. audited-well_formed run.store run.room instance solution k log league played steps answer good works.store
       given);
+  within = λ league played steps good ended.
+      elim ended [
+        | inl yes ↦
+            let whole = writes-as run (Audit instance solution k log) Yes answered is yes (λ same. cc) (λ same. cc) in
+            audited-kept run.store run.room instance solution k log league played steps whole.answer good
+            (answered-as whole.answer Yes whole.status_is (λ same. cc) (λ same. cc)) whole.given
+        | inr no ↦
+            let whole = writes-as run (Audit instance solution k log) No answered is no (λ same. cc) (λ same. cc) in
+            audited-kept run.store run.room instance solution k log league played steps whole.answer good
+            (answered-as whole.answer No whole.status_is (λ same. cc) (λ same. cc)) whole.given
+      ];
   excluded = λ league played say ended.
       let whole = writes-as run (Audit instance solution k log) Yes answered is ended (λ same. cc) (λ same. cc) in
-      audited-excluded run.store instance solution k log league played whole.answer say whole.status_is whole.given;
+      audited-excluded run.store run.room instance solution k log league played whole.answer say whole.status_is whole.given;
 }

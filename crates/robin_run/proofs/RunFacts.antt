@@ -1,5 +1,5 @@
 -- Worked runs, so that a wrong definition of what a run may answer does not check.
-use Rattle.std.proofs.Common.{◌≡◌, true, false, Some, None, codes, refl}
+use Rattle.std.proofs.Common.{◌≡◌, ◌∷◌, [], true, false, Some, None, codes, refl}
 use Rattle.robinx_tags.specs.declared.fault.FormKind.TheVariants.{BadNesting}
 use Rattle.answers.specs.Reply.{Answer, log_malformed, malformed, refused_words}
 use Rattle.answers.specs.declared.status.Status.TheVariants.{Yes, No, Words, File, Refuted, Spent, ReadFault, WriteFault}
@@ -13,32 +13,39 @@ use Rattle.command_solve.specs.MadeInstance.{made_instance}
 use Rattle.refutation.specs.declared.fault.LogKind.TheVariants.{BadLine}
 use Rattle.robin_run.specs.Answer.{IsAnswer}
 use Rattle.robin_run.specs.Ends.{may_end}
+use Rattle.robin_run.specs.Run.{step_room}
 use Rattle.command_validate.proofs.ValidateFacts as judged
 use Rattle.command_validate.proofs.ValidateFacts.{the_answer, validated-fault, validated-one}
 
 -- where nothing fails, the judgement is the one answer to `validate league season`
-pub validate-one : (answer : Answer) → IsAnswer ⊥ (Some (Validate (codes "league") (codes "season"))) judged.store answer → answer ≡ the_answer
+pub validate-one : (answer : Answer) → IsAnswer ⊥ None (Some (Validate (codes "league") (codes "season"))) judged.store answer → answer ≡ the_answer
 validate-one answer h = validated-one answer h
 
 -- where the first file has a fault, this is the one answer
-pub validate-fault : (answer : Answer) → IsAnswer ⊥ (Some (Validate (codes "season") (codes "league"))) judged.store answer → answer ≡ malformed (codes "instance") BadNesting 1
+pub validate-fault : (answer : Answer) → IsAnswer ⊥ None (Some (Validate (codes "season") (codes "league"))) judged.store answer → answer ≡ malformed (codes "instance") BadNesting 1
 validate-fault answer h = validated-fault answer h
 
 -- `check` over a log that is accepted, and over one with a fault of form behind a step that doesn't follow
-pub check-good : (answer : Answer) → IsAnswer ⊥ (Some (Check (codes "league") (codes "good"))) checks.store answer → answer ≡ record { status = Yes; text = codes "accepted steps 1\n" }
+pub check-good : (answer : Answer) → IsAnswer ⊥ None (Some (Check (codes "league") (codes "good"))) checks.store answer → answer ≡ record { status = Yes; text = codes "accepted steps 1\n" }
 check-good answer h = checked-good answer h
 
-pub check-bad : (answer : Answer) → IsAnswer ⊥ (Some (Check (codes "league") (codes "bad"))) checks.store answer → answer ≡ log_malformed BadLine 3
+pub check-bad : (answer : Answer) → IsAnswer ⊥ None (Some (Check (codes "league") (codes "bad"))) checks.store answer → answer ≡ log_malformed BadLine 3
 check-bad answer h = checked-bad answer h
 
+-- a megabyte has a million bytes, and the steps of a log may take any number where the words don't say it
+pub room-some : (step_room (codes "check" ∷ codes "league" ∷ codes "--room" ∷ codes "5" ∷ codes "log" ∷ []) ≡ Some 5000000)
+    × (step_room (codes "bound" ∷ codes "--room" ∷ codes "0" ∷ codes "league" ∷ codes "log" ∷ []) ≡ Some 0)
+    × (step_room (codes "bound" ∷ codes "league" ∷ codes "log" ∷ []) ≡ None) × (step_room [] ≡ None)
+room-some = (refl, refl, refl, refl)
+
 -- refused words, `circle` and `make`
-pub words-one : (answer : Answer) → IsAnswer ⊥ None judged.store answer → answer ≡ refused_words
+pub words-one : (answer : Answer) → IsAnswer ⊥ None None judged.store answer → answer ≡ refused_words
 words-one answer h = h
 
-pub circle-one : (answer : Answer) → IsAnswer ⊥ (Some (Circle 2)) judged.store answer → answer ≡ circle_season 2
+pub circle-one : (answer : Answer) → IsAnswer ⊥ None (Some (Circle 2)) judged.store answer → answer ≡ circle_season 2
 circle-one answer h = h
 
-pub make-one : (answer : Answer) → IsAnswer ⊥ (Some (Make 4 1)) judged.store answer → answer ≡ made_instance 4 1
+pub make-one : (answer : Answer) → IsAnswer ⊥ None (Some (Make 4 1)) judged.store answer → answer ≡ made_instance 4 1
 make-one answer h = h.made
 
 -- how runs may end: refused words, `prove`, and what comes of other commands alone

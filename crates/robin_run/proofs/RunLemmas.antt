@@ -33,7 +33,7 @@ given-gives outcome (Err without.Room) given is holds =
     subst (λ (g : Result Given NoValue). Gives outcome g) (sym is) holds
 
 -- the answer of a reply is written, unless memory ran out
-pub answered-by : (run : Run) (given : Result Given NoValue) → Gives (IsAnswer run.may_stop run.command run.store) given
+pub answered-by : (run : Run) (given : Result Given NoValue) → Gives (IsAnswer run.may_stop run.room run.command run.store) given
     → IsFolded given run.ended run.output → run.puts ≤ most_puts given → Answered run
 answered-by run (Ok given) answer written few memory = (given_answer given, answer, written, few)
 answered-by run (Err (without.Refused refusal)) answer written few memory = (answer_of refusal.reply, answer, written, few)
@@ -41,12 +41,12 @@ answered-by run (Err without.Memory) answer ended few memory = absurd (memory en
 answered-by run (Err without.Room) answer ended few memory = absurd (memory ended.0)
 
 -- where the run ends with want of memory, nothing is written
-pub kept-by : (run : Run) (given : Result Given NoValue) → Gives (IsAnswer run.may_stop run.command run.store) given
+pub kept-by : (run : Run) (given : Result Given NoValue) → Gives (IsAnswer run.may_stop run.room run.command run.store) given
     → IsFolded given run.ended run.output → run.ended ≡ Memory → Keeps run.output.before run.output.after
 kept-by run (Ok given) answer written memory =
-    absurd (written-memory run.may_stop run.command run.store (given_answer given) run.ended run.output answer written memory)
+    absurd (written-memory run.may_stop run.room run.command run.store (given_answer given) run.ended run.output answer written memory)
 kept-by run (Err (without.Refused refusal)) answer written memory =
-    absurd (written-memory run.may_stop run.command run.store (answer_of refusal.reply) run.ended run.output answer written memory)
+    absurd (written-memory run.may_stop run.room run.command run.store (answer_of refusal.reply) run.ended run.output answer written memory)
 kept-by run (Err without.Memory) answer ended memory = ended.1
 kept-by run (Err without.Room) answer ended memory = ended.1
 
@@ -55,13 +55,13 @@ pub few-puts : (before after most : ℕ) → after ≤ before + most → after -
 few-puts before after most few = omega (arith, few)
 
 -- and the sink isn't called
-pub uncalled-by : (run : Run) (given : Result Given NoValue) → Gives (IsAnswer run.may_stop run.command run.store) given
+pub uncalled-by : (run : Run) (given : Result Given NoValue) → Gives (IsAnswer run.may_stop run.room run.command run.store) given
     → IsFolded given run.ended run.output → (before after : ℕ) → after ≤ before + most_puts given → run.ended ≡ Memory
     → after ≤ before
 uncalled-by run (Ok given) answer written before after few memory =
-    absurd (written-memory run.may_stop run.command run.store (given_answer given) run.ended run.output answer written memory)
+    absurd (written-memory run.may_stop run.room run.command run.store (given_answer given) run.ended run.output answer written memory)
 uncalled-by run (Err (without.Refused refusal)) answer written before after few memory =
-    absurd (written-memory run.may_stop run.command run.store (answer_of refusal.reply) run.ended run.output answer written memory)
+    absurd (written-memory run.may_stop run.room run.command run.store (answer_of refusal.reply) run.ended run.output answer written memory)
 uncalled-by run (Err without.Memory) answer ended before after few memory = omega (arith, few)
 uncalled-by run (Err without.Room) answer ended before after few memory = omega (arith, few)
 
@@ -75,11 +75,11 @@ written-whole run kind answer is works (inr h) = absurd (works h.1)
 -- where nothing fails, an answer of each kind that all answers to the command have is written whole
 pub writes : (run : Run) (files : List (List ℕ)) (command : Command) (kind : Outcome) → Answered run
     → run.command ≡ Some command → NothingFails run files
-    → ((answer : Answer) → IsAnswer run.may_stop (Some command) run.store answer → kind answer) → Writes run kind
+    → ((answer : Answer) → IsAnswer run.may_stop run.room (Some command) run.store answer → kind answer) → Writes run kind
 writes run files command kind answered is works tells =
     let told = answered works.memory in
-    let given : IsAnswer run.may_stop (Some command) run.store told.0 =
-    subst (λ (words : Option Command). IsAnswer run.may_stop words run.store told.0) is told.1 in
+    let given : IsAnswer run.may_stop run.room (Some command) run.store told.0 =
+    subst (λ (words : Option Command). IsAnswer run.may_stop run.room words run.store told.0) is told.1 in
     written-whole run kind told.0 (tells told.0 given) works.sink told.2
 
 written-as : (answer : Answer) (ended status : Status) (output : Output) → ended ≡ status
@@ -91,7 +91,7 @@ written-as answer ended status output is other (inr h) = absurd (other (sym is �
 -- where a run ends with this status, an answer to the command with it is written whole
 pub record WritesAs (run : Run) (command : Command) (status : Status) : Type 0 where
   pub answer : Answer
-  pub given : IsAnswer run.may_stop (Some command) run.store answer
+  pub given : IsAnswer run.may_stop run.room (Some command) run.store answer
   pub status_is : answer.status ≡ status
   pub written : Appends run.output.before run.output.after answer.text
 
@@ -103,7 +103,7 @@ writes-as run command status answered is ended no_memory no_fault =
     written-as told.0 run.ended status run.output ended no_fault told.2 in
     record {
       answer = told.0;
-      given = subst (λ (words : Option Command). IsAnswer run.may_stop words run.store told.0) is told.1;
+      given = subst (λ (words : Option Command). IsAnswer run.may_stop run.room words run.store told.0) is told.1;
       status_is = whole.0;
       written = whole.1;
     }

@@ -1,5 +1,5 @@
 -- What a run may answer.
-use Rattle.std.specs.Prelude.{◌≡◌, Option, None, Some}
+use Rattle.std.specs.Prelude.{◌≡◌, ℕ, Option, None, Some}
 use Rattle.robin_io.specs.Outside.{Store}
 use Rattle.robin_watch.specs.Limits.{IsKeptTo}
 use Rattle.answers.specs.Reply.{refused_words}
@@ -29,34 +29,35 @@ use Rattle.command_solve.specs.Trial.{tried}
 use Rattle.command_validate.specs.Validate.{validated}
 use Rattle.command_rows.specs.Valued.{valued}
 
--- the answer to the words, of a run that may be stopped where `may_stop` says so
-abbrev pub IsAnswer : Type 0 → Option Command → Store → Outcome
-IsAnswer may_stop None store answer = answer ≡ refused_words
-IsAnswer may_stop (Some (Validate instance solution)) store answer = validated store instance solution answer
-IsAnswer may_stop (Some (Show instance solution most width)) store answer =
+-- the answer to the words, of a run that may be stopped where `may_stop` says so, and in which the steps of a log may
+-- take so many bytes as `room` says
+abbrev pub IsAnswer : Type 0 → Option ℕ → Option Command → Store → Outcome
+IsAnswer may_stop room None store answer = answer ≡ refused_words
+IsAnswer may_stop room (Some (Validate instance solution)) store answer = validated store instance solution answer
+IsAnswer may_stop room (Some (Show instance solution most width)) store answer =
     shown store instance solution (Text most width) answer
-IsAnswer may_stop (Some (Demands instance members)) store answer = demanded store instance members answer
-IsAnswer may_stop (Some (Sheet instance solution)) store answer = shown store instance solution Csv answer
-IsAnswer may_stop (Some (Check instance log)) store answer = checked store instance log answer
-IsAnswer may_stop (Some (Solve instance budgets)) store answer = solved store instance budgets may_stop answer
-IsAnswer may_stop (Some (SolveFrom instance solution budgets)) store answer =
+IsAnswer may_stop room (Some (Demands instance members)) store answer = demanded store instance members answer
+IsAnswer may_stop room (Some (Sheet instance solution)) store answer = shown store instance solution Csv answer
+IsAnswer may_stop room (Some (Check instance log)) store answer = checked store room instance log answer
+IsAnswer may_stop room (Some (Solve instance budgets)) store answer = solved store instance budgets may_stop answer
+IsAnswer may_stop room (Some (SolveFrom instance solution budgets)) store answer =
     begun store instance solution budgets may_stop answer
-IsAnswer may_stop (Some (Patterns instance conflicts)) store answer = patterned store instance conflicts answer
-IsAnswer may_stop (Some (Explain instance conflicts)) store answer = explained store instance conflicts may_stop answer
-IsAnswer may_stop (Some (Part instance members)) store answer = parted store instance members answer
-IsAnswer may_stop (Some (Prove instance solution conflicts)) store answer =
+IsAnswer may_stop room (Some (Patterns instance conflicts)) store answer = patterned store instance conflicts answer
+IsAnswer may_stop room (Some (Explain instance conflicts)) store answer = explained store instance conflicts may_stop answer
+IsAnswer may_stop room (Some (Part instance members)) store answer = parted store instance members answer
+IsAnswer may_stop room (Some (Prove instance solution conflicts)) store answer =
     proved store instance solution (IsKeptTo conflicts may_stop) may_stop answer
-IsAnswer may_stop (Some (Bound instance log)) store answer = bounded store instance log answer
-IsAnswer may_stop (Some (Resume instance solution k conflicts)) store answer =
+IsAnswer may_stop room (Some (Bound instance log)) store answer = bounded store room instance log answer
+IsAnswer may_stop room (Some (Resume instance solution k conflicts)) store answer =
     resumed store instance solution k (IsKeptTo conflicts may_stop) answer
-IsAnswer may_stop (Some (ResumeNear instance solution k budgets)) store answer =
+IsAnswer may_stop room (Some (ResumeNear instance solution k budgets)) store answer =
     neared store instance solution k (IsKeptTo budgets.conflicts may_stop) may_stop answer
-IsAnswer may_stop (Some (Audit instance solution k log)) store answer =
-    audited store instance solution k log answer
-IsAnswer may_stop (Some (Rows instance goal)) store answer = rowed store instance goal answer
-IsAnswer may_stop (Some (Values instance values)) store answer = valued store instance values answer
-IsAnswer may_stop (Some (Circle n)) store answer = answer ≡ circle_season n
-IsAnswer may_stop (Some (Make n seed)) store answer = IsMade n seed answer
-IsAnswer may_stop (Some (Trial n seed budgets)) store answer = tried n seed budgets may_stop answer
-IsAnswer may_stop (Some (Help topic)) store answer = answer ≡ help_answer topic
-IsAnswer may_stop (Some Version) store answer = answer ≡ version_answer
+IsAnswer may_stop room (Some (Audit instance solution k log)) store answer =
+    audited store room instance solution k log answer
+IsAnswer may_stop room (Some (Rows instance goal)) store answer = rowed store instance goal answer
+IsAnswer may_stop room (Some (Values instance values)) store answer = valued store instance values answer
+IsAnswer may_stop room (Some (Circle n)) store answer = answer ≡ circle_season n
+IsAnswer may_stop room (Some (Make n seed)) store answer = IsMade n seed answer
+IsAnswer may_stop room (Some (Trial n seed budgets)) store answer = tried n seed budgets may_stop answer
+IsAnswer may_stop room (Some (Help topic)) store answer = answer ≡ help_answer topic
+IsAnswer may_stop room (Some Version) store answer = answer ≡ version_answer

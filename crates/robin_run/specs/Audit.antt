@@ -1,11 +1,14 @@
 -- What `audit` promises: the log of a third file gets its verdict over the resume rows of a season.
-use Rattle.std.specs.Prelude.{◌≡◌, ℕ, List, [], ◌∷◌, Some}
+use Rattle.std.specs.Prelude.{◌≡◌, ◌⊎◌, ℕ, List, [], ◌∷◌, Some}
 use Rattle.league.specs.Counts.{counts_of}
 use Rattle.league.specs.Instance.{Instance}
 use Rattle.league.specs.declared.game.Game.{Game}
 use Rattle.command_line.specs.Words.{Command}
-use Rattle.answers.specs.declared.status.Status.TheVariants.{Yes}
+use Rattle.answers.specs.declared.status.Status.TheVariants.{Yes, No}
+use Rattle.encoding_base.specs.Variables.{var_count}
 use Rattle.refutation.specs.Steps.{Step}
+use Rattle.refutation_check.specs.Room.{KeepsRoom}
+use Rattle.resume_rows.specs.Kept.{resume_rows}
 use Rattle.resume_rows.specs.Resumable.{NoneResumes}
 use Rattle.command_resume.specs.Audited.{IsVerdict, IsWellFormedAudit}
 use Rattle.command_resume.specs.Seasons.{SaySeason}
@@ -16,7 +19,12 @@ pub record Promise (run : Run) (instance solution : List ℕ) (k : ℕ) (log : L
   pub audited : (league : Instance) (played : List Game) (steps : List Step)
       → IsWellFormedAudit run.store instance solution k log league played steps
       → NothingFails run (instance ∷ solution ∷ log ∷ [])
-      → Writes run (IsVerdict league played k steps)
+      → Writes run (IsVerdict league played k run.room steps)
+  -- A well-formed log is accepted or rejected only where its steps keep to the room that the words give.
+  pub within : (league : Instance) (played : List Game) (steps : List Step)
+      → IsWellFormedAudit run.store instance solution k log league played steps
+      → (run.ended ≡ Yes) ⊎ (run.ended ≡ No)
+      → KeepsRoom (resume_rows league (counts_of played) k) (var_count league) run.room steps
   -- Where a log is accepted, no accepted season keeps the played games.
   pub excluded : (league : Instance) (played : List Game)
       → SaySeason run.store instance solution league played

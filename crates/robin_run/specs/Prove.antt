@@ -40,22 +40,24 @@ pub record IsBettered (league : Instance) (games : List Game) (output : Output) 
   pub lower : objective league (counts_of better) < objective league (counts_of games)
   pub written : Appends output.before output.after (solution_text better (Some (0, objective league (counts_of better))))
 
--- The games are accepted, and no accepted schedule has an objective below a floor. Behind the objective of the games a
--- certificate of the floor is written, which is accepted by the verdict of `bound` and reads back, and then a log.
+-- The games are accepted, and no accepted schedule has an objective below a floor, which is below theirs. Behind the
+-- objective of the games a certificate of the floor is written, which is accepted by the verdict of `bound` and reads
+-- back, and then a log.
 pub record IsFloored (league : Instance) (games : List Game) (output : Output) : Type 0 where
   pub bound : ℕ
   pub floor : List Step
   pub steps : List Step
   pub accepted : IsAccepted league (counts_of games)
   pub least : IsLowerBound league bound
+  pub below : bound < objective league (counts_of games)
   pub certified : bound_verdict league bound floor ≡ Accepted
   pub reads_back : certificate_of (certificate_text bound floor) ≡ Ok (record { bound = bound; log = floor })
   pub written : Appends output.before output.after (spent_text (objective league (counts_of games)) bound floor steps)
 
 pub record Promise (run : Run) (instance solution : List ℕ) (conflicts : Option ℕ) : Type 0 where
   -- What is shown of the season of a well-formed case is written, where nothing fails: the report of `validate` where
-  -- the season isn't accepted, a certificate, a better season, or a floor and a log that is spent at the budget, while
-  -- no single move betters the season. Where the run may be stopped, the budget may be lower than the one that was set,
+  -- the season isn't accepted, a certificate, a better season, or a floor below it and a log that is spent at the budget,
+  -- while no single move betters the season. Where the run may be stopped, the budget may be lower than the one that was set,
   -- and a move may better the season.
   pub proved : (league : Instance) (games : List Game)
       → IsWellFormedCase run.store instance solution league games → NothingFails run (instance ∷ solution ∷ [])
@@ -66,7 +68,8 @@ pub record Promise (run : Run) (instance solution : List ℕ) (conflicts : Optio
   -- Where the season is bettered, the one that is written is accepted, with a lower objective.
   pub bettered : (league : Instance) (games : List Game)
       → SaySeason run.store instance solution league games → run.ended ≡ Better → IsBettered league games run.output
-  -- Where the budget is spent, no accepted season has an objective below the floor that is written.
+  -- Where the budget is spent, no accepted season has an objective below the floor that is written, and this season's is
+  -- above it.
   pub floored : (league : Instance) (games : List Game)
       → SaySeason run.store instance solution league games → run.ended ≡ Spent → IsFloored league games run.output
 

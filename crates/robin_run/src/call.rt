@@ -16,7 +16,7 @@ ghost use Rattle.robin_run.specs.Commands.{KeepsPromises};
 ghost use Rattle.robin_run.specs.Ends.{EndsByWords};
 ghost use Rattle.robin_run.specs.Folded.{IsFolded, most_puts};
 ghost use Rattle.robin_run.specs.Givens.{Gives};
-ghost use Rattle.robin_run.specs.Run.{Answered, run_of};
+ghost use Rattle.robin_run.specs.Run.{Answered, run_of, step_room};
 ghost use Rattle.robin_run.specs.Taken.{most_taken};
 
 use crate::given::{Given, give};
@@ -108,7 +108,7 @@ fn follow<S: Shelf, W: Listener>(
     limit: Option<u128>,
 ) -> Result<Given, NoValue>
     requires { HasTeams (command_of command) }
-    ensures answer { Gives (IsAnswer (W.may_stop watch.now) (Some (command_of command.entry))
+    ensures answer { Gives (IsAnswer (W.may_stop watch.now) limit (Some (command_of command.entry))
         (store_between S.Shelf shelf.old shelf.new)) result }
     ensures taken { S.taken shelf.new ≤ S.taken shelf.old + most_taken (Some (command_of command.entry)) }
     ensures contents { (n : List ℕ) → S.contents shelf.new n ≡ S.contents shelf.old n }
@@ -194,8 +194,8 @@ fn answer<S: Shelf, W: Listener>(
     shelf: &mut S,
     watch: &W,
 ) -> Result<Given, NoValue>
-    ensures answer { Gives (IsAnswer (W.may_stop watch.now) (reading (map string_bytes words.now))
-        (store_between S.Shelf shelf.old shelf.new)) result }
+    ensures answer { Gives (IsAnswer (W.may_stop watch.now) (step_room (map string_bytes words.now))
+        (reading (map string_bytes words.now)) (store_between S.Shelf shelf.old shelf.new)) result }
     ensures taken { S.taken shelf.new ≤ S.taken shelf.old + most_taken (reading (map string_bytes words.now)) }
     ensures contents { (n : List ℕ) → S.contents shelf.new n ≡ S.contents shelf.old n }
     ensures untouched { NeedsNoFile (reading (map string_bytes words.now)) → shelf.new ≡ shelf.old }

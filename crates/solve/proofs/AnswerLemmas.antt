@@ -18,8 +18,7 @@ use Rattle.rows.specs.Rows.{Row}
 use Rattle.refutation.specs.Steps.{Step, is_linear}
 use Rattle.refutation.specs.Steps.Step.{Clause}
 use Rattle.refutation.specs.Texts.{version_of}
-use Rattle.clause_search.proofs.SearchLemmas.{news-clauses}
-use Rattle.clause_search.specs.Answers.{IsSpentAt, Refutes}
+use Rattle.clause_search.specs.Answers.{Refutes}
 use Rattle.clause_search.specs.News.{IsTidy}
 use Rattle.clause_search.proofs.LineLemmas.{step_named, step_short}
 use Rattle.robin_watch.specs.Limits.{IsKeptTo}
@@ -29,10 +28,10 @@ use Rattle.pattern_search.specs.PatternRows.{pattern_rows}
 use Rattle.pattern_search.specs.declared.found.PatternFound.{PatternFound}
 use Rattle.pattern_search.specs.declared.found.PatternFound.TheVariants.{Spent}
 use Rattle.pattern_search.proofs.NewsLemmas.{pattern_news-clauses}
-use Rattle.break_counts.proofs.SearchLemmas.{refuting}
-use Rattle.solve.specs.Solutions.{IsSpentOn, IsWritable, RefutesLeague}
+use Rattle.decoding.proofs.SeasonLemmas.{accepted_logs_exclude}
+use Rattle.league_search.specs.Answers.{RefutesBehind}
+use Rattle.solve.specs.Solutions.{IsWritable, RefutesLeague}
 use Rattle.solve.specs.Tried.{RefutesWithin}
-use Rattle.solve.proofs.CountingLemmas.{refuted_by}
 
 -- ---- steps that are news are no sums
 
@@ -46,12 +45,6 @@ writable vars steps most tidy clauses = record {
       step_short (version_of steps) vars (get_or steps k d) most (tidy k d within) (clauses k d within);
 }
 
-pub refuted : (league : Instance) (limit : Option ℕ) (steps : List Step) → IsInstance league
-    → var_count league ≤ 130960 → Refutes (rows_of league) (var_count league) limit steps
-    → RefutesLeague league steps
-refuted league limit steps instance most is =
-    refuted_by league steps instance (refuting league limit steps most is)
-
 -- a log that refutes rows has at most one step more than the limit
 pub refutes-few : (rows : List Row) (vars : ℕ) (limit : Option ℕ) (steps : List Step) → Refutes rows vars limit steps
     → IfSome limit (λ most. length steps ≤ most + 1)
@@ -64,23 +57,16 @@ refutes-few rows vars (Some most) steps is =
       length-append is.before (Clause [] is.hints ∷ []),
     )
 
+-- a log by which a search refutes a league
 pub refuted-tried : (league : Instance) (limit : Option ℕ) (steps : List Step) → IsInstance league
-    → var_count league ≤ 130960 → Refutes (rows_of league) (var_count league) limit steps
-    → RefutesWithin league limit steps
-refuted-tried league limit steps instance most is = record {
-  refutes = refuted league limit steps instance most is;
-  within = refutes-few (rows_of league) (var_count league) limit steps is;
-}
-
-pub spent : (league : Instance) (limit : Option ℕ) (steps : List Step) → var_count league ≤ 130960
-    → IsSpentAt (rows_of league) (var_count league) limit steps → IsSpentOn league limit steps
-spent league limit steps most is = record {
-  limited = is.limited;
-  spent = is.spent;
-  few = is.few;
-  tidy = is.tidy;
-  writable = writable (var_count league) steps most is.tidy
-      (news-clauses (rows_of league) (var_count league) steps is.spent.news);
+    → RefutesBehind league limit steps → RefutesWithin league limit steps
+refuted-tried league limit steps instance is = record {
+  refutes = record {
+    accepted = is.accepted;
+    none = accepted_logs_exclude league steps instance is.accepted;
+    writable = is.log.writable;
+  };
+  search = is;
 }
 
 -- a log that refutes the pattern rows

@@ -172,7 +172,7 @@ nothing_spent : (steps : List Step) → ◌≡◌ {A = Option ℕ} None (Some (l
 nothing_spent steps is = cc
 
 pub never_spent : (league : Instance) (steps : List Step) → IsSpentOn league None steps → ⊥
-never_spent league steps is = nothing_spent steps is.limited
+never_spent league steps is = nothing_spent is.log.behind.search is.spent.limited
 
 -- ---- what is known of patterns: no set with a team too few, no log without the budget's steps, and no refutation
 

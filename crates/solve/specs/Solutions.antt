@@ -1,6 +1,6 @@
 -- What is found of a league: a schedule, a log that refutes its rows, or one that is spent, with what is known of the
 -- league's patterns.
-use Rattle.std.specs.Prelude.{◌≡◌, ◌⊎◌, ℕ, ◌<◌, ◌≤◌, ◌^◌, true, false, List, length, Option, Some}
+use Rattle.std.specs.Prelude.{◌≡◌, ◌⊎◌, ℕ, ◌≤◌, true, false, List, length, Some}
 use Rattle.std.specs.List.{All}
 use Rattle.robin_watch.specs.declared.budgets.Budgets.{Budgets}
 use Rattle.league.specs.Accepted.{IsAccepted}
@@ -11,11 +11,9 @@ use Rattle.league.specs.Order.{IsInOrder}
 use Rattle.league.specs.declared.game.Game.{Game}
 use Rattle.encoding_base.specs.Encoding.{rows_of}
 use Rattle.encoding_base.specs.Variables.{var_count}
-use Rattle.refutation.specs.Steps.{NamesRows, Step}
+use Rattle.refutation.specs.Steps.{Step}
 use Rattle.refutation.specs.Verdict.{verdict_of}
-use Rattle.refutation.specs.Writable.{HasShortLines}
 use Rattle.refutation.specs.declared.verdict.Verdict.TheVariants.{Accepted}
-use Rattle.clause_search.specs.News.{IsSpent, IsTidy}
 use Rattle.tally.specs.HardSum.{hard_sum}
 use Rattle.descent.specs.Descended.{Descended}
 use Rattle.descent.specs.Settled.{IsSettled}
@@ -26,6 +24,7 @@ use Rattle.pattern_search.specs.PatternSets.{IsPatternSet}
 use Rattle.pattern_search.specs.declared.found.PatternFound.{PatternFound}
 use Rattle.pattern_search.specs.declared.found.PatternFound.TheVariants as found
 use Rattle.decoding.specs.Excluded.{NoneAccepted}
+pub use Rattle.league_search.specs.Answers.{IsSpentOn, IsWritable}
 use Rattle.solve.specs.Kept.{AreKeptTo}
 use Rattle.solve.specs.declared.solved.Solved.{Solved}
 use Rattle.solve.specs.declared.solved.Solved.TheVariants.{Schedule, Refuted, Spent}
@@ -61,23 +60,10 @@ pub record IsSchedule (league : Instance) (moves : ℕ) (may_stop : Type 0) (gam
   pub cost : objective ≡ costs.objective league (counts_of games)
   pub descends : IsDescent league moves may_stop games descent
 
--- A log whose text can be written and read back: each hint names a row, and no line passes the limit of a line.
-pub record IsWritable (steps : List Step) : Type 0 where
-  pub named : All NamesRows steps
-  pub short : HasShortLines steps
-
 -- a log that is accepted over the league's rows: so the league accepts no games
 pub record RefutesLeague (league : Instance) (steps : List Step) : Type 0 where
   pub accepted : verdict_of (rows_of league) (var_count league) steps ≡ Accepted
   pub none : NoneAccepted league
-  pub writable : IsWritable steps
-
--- a log of tidy steps that is spent at the limit over the league's rows, which is below 3 to the number of variables
-pub record IsSpentOn (league : Instance) (limit : Option ℕ) (steps : List Step) : Type 0 where
-  pub limited : limit ≡ Some (length steps)
-  pub spent : IsSpent (length steps) (rows_of league) (var_count league) steps
-  pub few : length steps < 3 ^ var_count league
-  pub tidy : All (IsTidy (var_count league)) steps
   pub writable : IsWritable steps
 
 -- What is known of the patterns of a league where it is neither solved nor refuted: patterns that satisfy its pattern

@@ -1,9 +1,10 @@
 -- What one try says of a league.
-use Rattle.std.specs.Prelude.{ℕ, ◌+◌, ◌≤◌, List, length, Option, None, Some, IfSome}
+use Rattle.std.specs.Prelude.{ℕ, ◌≤◌, List, Option, None, Some}
 use Rattle.robin_watch.specs.declared.budgets.Budgets.{Budgets}
 use Rattle.robin_watch.specs.Limits.{IsKeptTo}
 use Rattle.league.specs.Instance.{Instance}
 use Rattle.refutation.specs.Steps.{Step}
+use Rattle.league_search.specs.Answers.{RefutesBehind}
 use Rattle.solve.specs.Kept.{AreKeptTo}
 use Rattle.solve.specs.Solutions.{IsSchedule, IsSpentOn, RefutesLeague}
 use Rattle.solve.specs.declared.lower.Season.{Season}
@@ -22,10 +23,10 @@ pub record IsSeasonBy (league : Instance) (moves : ℕ) (may_stop : Type 0) (sea
   pub is_kept : IsKeptTo (Some moves) may_stop (Some kept)
   pub is_season : IsSeason league kept may_stop season
 
--- a log that refutes the league, and has at most as many steps as the limit before its last
+-- a log that refutes the league, and whose search has at most as many steps as the limit before its last
 pub record RefutesWithin (league : Instance) (limit : Option ℕ) (steps : List Step) : Type 0 where
   pub refutes : RefutesLeague league steps
-  pub within : IfSome limit (λ most. length steps ≤ most + 1)
+  pub search : RefutesBehind league limit steps
 
 -- what a try comes to: an accepted schedule, a log that refutes the league within the limit of conflicts, or one that
 -- is spent at it

@@ -5,7 +5,7 @@ ghost use Rattle.rows.specs.Rows.{SatisfiesAll};
 ghost use Rattle.rows.specs.Values.{assigned};
 ghost use Rattle.encoding_base.specs.Encoding.{rows_of};
 ghost use Rattle.encoding_base.specs.Variables.{var_count};
-ghost use Rattle.clause_search.specs.Answers.{IsAnswerBy};
+ghost use Rattle.league_search.specs.Answers.{IsLeagueAnswerBy};
 ghost use Rattle.solve.specs.Tried.{IsSeasonBy, IsTriedBy};
 
 use crate::from_walk::try_walk;
@@ -13,9 +13,10 @@ use crate::lower::Season;
 use crate::share::Share;
 use crate::told::{lowered_told, tell_found};
 use crate::tries::{Tried, with_walked};
-use clause_search::{Found, search_watched};
+use clause_search::Found;
 use decoding::decode;
 use encoding::Encoding;
+use league_search::search_league;
 use robin_watch::{Budgets, Listener, News, Phase};
 use rows::{Assignment, Lit};
 use std::alloc::{AllocError, Global};
@@ -100,14 +101,7 @@ pub(crate) fn try_search<W: Listener>(
     ensures { IfOk result (IsTriedBy encoding.now budgets (W.may_stop watch.now)) }
 {
     watch.tell(News::Phase(Phase::Search));
-    let found = search_watched(
-        alloc,
-        encoding.rows(),
-        encoding.vars(),
-        prefer,
-        budgets.conflicts,
-        watch,
-    )?;
+    let found = search_league(alloc, encoding, prefer, budgets.conflicts, watch)?;
     answer(alloc, encoding, found, budgets, watch)
 }
 
@@ -122,8 +116,7 @@ fn answer<W: Listener>(
     budgets: Budgets,
     watch: &W,
 ) -> Result<Tried, AllocError>
-    requires found { IsAnswerBy (rows_of encoding.now) (var_count encoding.now) budgets.conflicts
-        (W.may_stop watch.now) found }
+    requires found { IsLeagueAnswerBy encoding.now budgets.conflicts (W.may_stop watch.now) found }
     ensures { IfOk result (IsTriedBy encoding.now budgets (W.may_stop watch.now)) }
 {
     let _vars = encoding.vars();

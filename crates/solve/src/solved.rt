@@ -15,8 +15,8 @@ pub enum Solved {
     },
     /// A log that is accepted over the league's rows, so that the league accepts no schedule.
     Refuted(Log),
-    /// A log of as many steps as the limit allows, each of which says more than propagation finds; and patterns that
-    /// the league's pattern rows allow, or a log that is spent over these.
+    /// A log whose search has as many steps as the limit allows, each of which says more than propagation finds; and
+    /// patterns that the league's pattern rows allow, or a log that is spent over these.
     Spent {
         log: Log,
         patterns: PatternFound,

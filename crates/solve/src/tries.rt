@@ -17,7 +17,7 @@ pub enum Tried {
     Found(Season),
     /// A log that refutes the league.
     Refuted(Log),
-    /// A log of as many steps as the limit allows.
+    /// A log whose search has as many steps as the limit allows.
     Spent(Log),
 }
 

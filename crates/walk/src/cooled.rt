@@ -17,13 +17,13 @@ const ENOUGH: u64 = 10_000_000;
 /// The searches before the one with this number don't cool.
 const FIRST: u64 = 2;
 
-/// How cold a walk is at its start, in tenths: a unit of a constraint's penalty weighs ten at first.
-const WARM: u64 = 6;
+/// The inverse temperature of a walk at its start, in tenths: a unit of a constraint's penalty weighs ten at first.
+const INVERSE_AT_START: u64 = 6;
 
-/// How cold a walk is at its end, likewise.
-const COLD: u64 = 16;
+/// The inverse temperature of a walk at its end, in tenths.
+const INVERSE_AT_END: u64 = 16;
 
-/// The heat of a walk's thresholds, in 256ths of 256ths, times how cold it is.
+/// The temperature of a walk's thresholds, in 256ths of 256ths, times its inverse in tenths.
 const UNIT: u64 = 4_541_440;
 
 /// A weight grows by at most this part of it at the end of a stretch.
@@ -74,13 +74,13 @@ impl Walker {
     }
 }
 
-/// The heat of thresholds where so many of a walk's moves are left.
+/// The temperature of thresholds where so many of a walk's moves are left.
 fn heat(moves: u64, left: u64) -> u64 {
     let done = moves.saturating_sub(left);
-    let cold = WARM
+    let inverse = INVERSE_AT_START
         .saturating_mul(left)
-        .saturating_add(COLD.saturating_mul(done));
-    UNIT.saturating_mul(moves) / cold.max(1)
+        .saturating_add(INVERSE_AT_END.saturating_mul(done));
+    UNIT.saturating_mul(moves) / inverse.max(1)
 }
 
 /// By which part of it a weight grows at the end of a stretch of a walk of so many moves.

@@ -1,5 +1,4 @@
 use Rattle.std.proofs.Common.{map, string_bytes}
-use Rattle.command_line.specs.Words.{reading}
 use Rattle.page_io.specs.ShelfFields.{files_of, taken_of}
 use Rattle.page_io.specs.SinkFields.{faults_of, text_of}
 use Rattle.page.proofs.RunLemmas.{ran}
@@ -10,7 +9,7 @@ returns c = record {
   ended = c.run-ended.result;
   text = c.text.result.now;
   faults = c.faults.result;
-  ran = ran (reading (map string_bytes c.args.words.now)) c.args.files.now
+  ran = ran (map string_bytes c.args.words.now) c.args.files.now
       (files_of c.new-shelf.result) (taken_of c.new-shelf.result) (taken_of c.run-ended.new.shelf)
       (text_of c.new-out.result) (text_of c.run-ended.new.out) (faults_of c.new-out.result) (faults_of c.run-ended.new.out)
       c.run-ended.result c.new-shelf.ensures.files c.new-shelf.ensures.taken c.new-out.ensures.text c.new-out.ensures.faults

@@ -13,7 +13,7 @@ returns-in_err-give_all-clause-full c = λ is.
     let ended : c.from_residual-in_err-give_all.result ≡ Err p.0 = p.1 in
     let same : p.0 ≡ fault = p.2 in
     let full : fault ≡ Full = cc in (
-      some-piece c.args.feed.now c.feed.new.self _ _ c.args.checker.now c.give_all.new.checker c.args.piece.now
+      some-piece c.args.limit c.args.feed.now c.feed.new.self _ _ c.args.checker.now c.give_all.new.checker c.args.piece.now
           c.new-steps.ensures c.in_ok-feed.ensures.read c.in_err-give_all.ensures.err,
       c.in_err-give_all.ensures.full (ap (λ (f : StepsFault). let r : Result (Unit {0}) StepsFault = Err f in r) full),
     )

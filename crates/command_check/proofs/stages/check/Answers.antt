@@ -1,29 +1,48 @@
-use Rattle.std.proofs.Common.{◌≡◌, List, ℕ, length, sym, subst}
-use Rattle.robin_io.specs.Counts.{raised}
+use Rattle.std.proofs.Common.{sym, List, ℕ, Option, length, subst}
 use Rattle.robin_io.specs.Outside.{Store, store_between}
 use Rattle.robin_io.proofs.StoreLemmas.{rest-between}
-use Rattle.robinx_read.specs.declared.instance.TheConstants.{INSTANCE_LIMIT}
-use Rattle.answers.specs.Stages.{IsFile}
+use Rattle.encoding.specs.Encoding.{rows_of}
+use Rattle.encoding.specs.Variables.{var_count}
 use Rattle.answers.proofs.StageLemmas.{Answers-wider}
+use Rattle.answers.specs.SeenReply.{answer_of}
+use Rattle.answers.specs.declared.refusal.Refusal.{Refusal}
+use Rattle.command_check.specs.Check.{LogPassesRoom, checked}
 use Rattle.command_check.proofs.StageLemmas.{checked-within}
 use Rattle.command_check.proofs.stages.check.Goals as goal
 
 -- the log has the contents that it had before the instance was read
-pub returns-clause-answer : goal.returns-clause-answer
-returns-clause-answer g c =
-    let whole : Store = store_between g.S.Shelf c.args.shelf.now c.check_log.new.shelf in
-    let rest : Store = store_between g.S.Shelf c.file.new.shelf c.check_log.new.shelf in
-    let first : List ℕ = c.deref.result.now in
-    let is_first : IsFile (whole.contents c.args.instance.now) INSTANCE_LIMIT first =
-    subst (λ (bytes : List ℕ). IsFile (whole.contents c.args.instance.now) INSTANCE_LIMIT bytes)
-    (sym c.deref.ensures.value) c.in_ok-first.ensures.stage in
-    let taken : g.S.Shelf.taken c.file.new.shelf ≡ raised (g.S.Shelf.taken c.args.shelf.now) (length first) =
-    subst (λ (n : ℕ). g.S.Shelf.taken c.file.new.shelf ≡ raised (g.S.Shelf.taken c.args.shelf.now) n)
-    (sym c.deref.ensures.len) c.in_ok-first.ensures.count in
+pub returns-in-Ok-clause-answer : goal.returns-in-Ok-clause-answer
+returns-in-Ok-clause-answer g c =
+    let read = c.in-Ok.ensures.stage in
     Answers-wider _ _
-    (checked-within whole rest c.args.instance.now c.args.log.now first c.in_ok-league.league
-    c.in_ok-encoding.encoding
-    (rest-between g.S.Shelf c.args.shelf.now c.file.new.shelf c.check_log.new.shelf (length first)
-    c.in_ok-first.ensures.contents taken c.in_ok-first.ensures.later)
-    is_first c.in_ok-league.ensures c.in_ok-encoding.ensures.stage.0 c.in_ok-encoding.ensures.stage.1)
+    (checked-within (store_between g.S.Shelf c.args.shelf.now c.check_log.new.shelf)
+    (store_between g.S.Shelf c.encoding_in.new.shelf c.check_log.new.shelf) c.args.limit c.args.instance.now
+    c.args.log.now (g.S.Shelf.taken c.args.shelf.now) (g.S.Shelf.taken c.encoding_in.new.shelf) c.in-Ok.encoding read
+    (rest-between g.S.Shelf c.args.shelf.now c.encoding_in.new.shelf c.check_log.new.shelf (length read.bytes)
+    c.encoding_in.ensures.contents read.taken c.encoding_in.ensures.later))
     c.check_log.result c.check_log.ensures.answer
+
+pub returns-in-Ok-clause-full : goal.returns-in-Ok-clause-full
+returns-in-Ok-clause-full g c = λ is.
+    let read = c.in-Ok.ensures.stage in
+    record {
+      first = read.bytes;
+      first_file = read.file;
+      league = c.in-Ok.encoding;
+      says_league = read.says_league;
+      passes =
+          subst
+          (λ (known : Option (List ℕ)).
+          LogPassesRoom known (rows_of c.in-Ok.encoding) (var_count c.in-Ok.encoding) c.args.limit)
+          (c.encoding_in.ensures.contents c.args.log.now) (c.check_log.ensures.full is);
+    }
+
+-- the instance file is refused
+pub returns-in-Err-Refused-clause-answer : goal.returns-in-Err-Refused-clause-answer
+returns-in-Err-Refused-clause-answer g c =
+    let store : Store = store_between g.S.Shelf c.args.shelf.now c.encoding_in.new.shelf in
+    let stage = rw c.in-Err-Refused.field-0-is at c.in-Err-Refused.ensures.stage in
+    let refused : checked store c.args.limit c.args.instance.now c.args.log.now (answer_of c.in-Err-Refused.refusal.reply) =
+    stage c.args.limit c.args.log.now in
+    subst (λ (refusal : Refusal). checked store c.args.limit c.args.instance.now c.args.log.now (answer_of refusal.reply))
+    (sym c.in-Err-Refused.refusal-is) refused

@@ -13,7 +13,12 @@ returns-clause-answer g c =
     Answers-wider _ _
     (λ answer. read-verdict (store.contents c.args.name.now) (store.took_more most_log_bytes)
     (store.failed c.args.name.now)
-    c.args.encoding.now answer c.in_ok-checker.ensures.instance)
+    c.args.encoding.now c.args.limit answer c.in_ok-checker.ensures.instance)
     c.judge_log.result
     (c.judge_log.ensures.answer (rows_of c.args.encoding.now) (var_count c.args.encoding.now)
     c.in_ok-checker.ensures.checker)
+
+pub returns-clause-full : goal.returns-clause-full
+returns-clause-full g c = λ is.
+    c.judge_log.ensures.passes is (rows_of c.args.encoding.now) (var_count c.args.encoding.now)
+    c.in_ok-checker.ensures.checker

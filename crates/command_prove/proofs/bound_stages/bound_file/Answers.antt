@@ -1,70 +1,34 @@
-use Rattle.std.proofs.Common.{List, Option, ℕ, ◌+◌, ◌<◌, ◌≡◌, length, codes, rules, subst, sym}
-use Rattle.std.proofs.lemmas.Result.{err_from_is_err_and}
-use Rattle.robin_io.specs.Counts.{raised}
+use Rattle.std.proofs.Common.{subst, sym}
 use Rattle.robin_io.specs.Outside.{Store, store_between}
-use Rattle.robin_io.specs.Rests.{IsRest}
-use Rattle.robin_io.proofs.StoreLemmas.{rest-between}
-use Rattle.robinx_read.specs.declared.instance.TheConstants.{INSTANCE_LIMIT}
-use Rattle.answers.specs.Reply.{too_large}
-use Rattle.answers.specs.SeenReply.{Answers}
-use Rattle.answers.specs.Stages.{IsFile, IsUnread}
-use Rattle.answers.proofs.StageLemmas.{Answers-wider, unread-end}
-use Rattle.command_check.specs.Check.{most_log_bytes}
-use Rattle.bound_rows.specs.BoundRows.{bound_size}
-use Rattle.command_prove.proofs.BoundStages.{bounded-large, bounded-last, bounded-unread}
+use Rattle.answers.specs.SeenReply.{answer_of}
+use Rattle.answers.specs.declared.refusal.Refusal.{Refusal}
+use Rattle.answers.proofs.StageLemmas.{Answers-wider}
+use Rattle.command_prove.specs.Bound.{bounded}
+use Rattle.command_prove.proofs.BoundStages.{bounded-said}
 use Rattle.command_prove.proofs.bound_stages.bound_file.Goals as goal
-use Rattle.encoding.specs.Limit.{most_terms}
 
--- the certificate has the contents that it had before the instance was read
-pub returns-clause-answer : goal.returns-clause-answer
-returns-clause-answer g c =
-    let store : Store = store_between g.S.Shelf c.args.shelf.now c.file-2.new.shelf in
-    let is_first : IsFile (store.contents c.args.instance.now) INSTANCE_LIMIT c.deref.result.now =
-    subst (λ (bytes : List ℕ). IsFile (store.contents c.args.instance.now) INSTANCE_LIMIT bytes) (sym c.deref.ensures.value)
-    c.in_ok-first.ensures.stage in
-    let is_second : IsFile (store.contents c.args.log.now) most_log_bytes c.deref-2.result.now =
-    subst (λ (bytes : List ℕ). IsFile (store.contents c.args.log.now) most_log_bytes bytes) (sym c.deref-2.ensures.value)
-    (subst (λ (known : Option (List ℕ)). IsFile known most_log_bytes c.in_ok-second.second.items)
-    (c.file.ensures.contents c.args.log.now) c.in_ok-second.ensures.stage) in
+-- the certificate gets its verdict
+pub returns-in-Ok-clause-answer : goal.returns-in-Ok-clause-answer
+returns-in-Ok-clause-answer g c =
     Answers-wider _ _
-    (bounded-last store c.args.instance.now c.args.log.now _ _ _ is_first c.in_ok-league.ensures
-    c.in_ok-terms.ensures.few is_second) _ c.judge_text.ensures
+    (bounded-said (store_between g.S.Shelf c.args.shelf.now c.claim_in.new.shelf) c.args.limit c.args.instance.now
+    c.args.log.now c.in-Ok.claim.league c.in-Ok.claim.certificate c.in-Ok.ensures.stage.0) _
+    c.judge_claim.ensures.answer
 
--- the certificate isn't read, or memory ran out
-pub returns-in_err-second-clause-answer : goal.returns-in_err-second-clause-answer
-returns-in_err-second-clause-answer g c =
-    let store : Store = store_between g.S.Shelf c.args.shelf.now c.file-2.new.shelf in
-    let is_first : IsFile (store.contents c.args.instance.now) INSTANCE_LIMIT c.deref.result.now =
-    subst (λ (bytes : List ℕ). IsFile (store.contents c.args.instance.now) INSTANCE_LIMIT bytes) (sym c.deref.ensures.value)
-    c.in_ok-first.ensures.stage in
-    let rest : Store = store_between g.S.Shelf c.file.new.shelf c.file-2.new.shelf in
-    let name : List ℕ = c.args.log.now in
-    let front : ℕ = length c.deref.result.now in
-    let taken : g.S.Shelf.taken c.file.new.shelf ≡ raised (g.S.Shelf.taken c.args.shelf.now) front =
-    subst (λ (n : ℕ). g.S.Shelf.taken c.file.new.shelf ≡ raised (g.S.Shelf.taken c.args.shelf.now) n)
-    (sym c.deref.ensures.len) c.in_ok-first.ensures.count in
-    let is_rest : IsRest front store rest =
-    rest-between g.S.Shelf c.args.shelf.now c.file.new.shelf c.file-2.new.shelf front c.file.ensures.contents taken
-    c.file.ensures.later in
-    let p = err_from_is_err_and c.from_residual-in_err-second.result c.from_residual-in_err-second.ensures.1 in
-    let unread : Answers (IsUnread (codes "log") (store.contents name) most_log_bytes (store.took_more (front + most_log_bytes))
-    (store.failed name)) c.from_residual-in_err-second.result =
-    rw (p.1, p.2)
-    (unread-end front store rest is_rest (codes "log") name most_log_bytes c.in_err-second.field-0.0
-    (λ reply is. rw is at c.in_err-second.ensures.stage)) in
-    Answers-wider _ _
-    (bounded-unread store c.args.instance.now name _ _ is_first c.in_ok-league.ensures
-    c.in_ok-terms.ensures.few) _ unread
+pub returns-in-Ok-clause-full : goal.returns-in-Ok-clause-full
+returns-in-Ok-clause-full g c = λ is. record {
+  league = c.in-Ok.claim.league;
+  certificate = c.in-Ok.claim.certificate;
+  read = c.in-Ok.ensures.stage.0;
+  past = c.judge_claim.ensures.full is;
+}
 
--- the bound rows have too many terms, or memory ran out
-pub returns-in_err-terms-clause-answer : goal.returns-in_err-terms-clause-answer
-returns-in_err-terms-clause-answer g c =
-    let store : Store = store_between g.S.Shelf c.args.shelf.now c.file.new.shelf in
-    let is_first : IsFile (store.contents c.args.instance.now) INSTANCE_LIMIT c.deref.result.now =
-    subst (λ (bytes : List ℕ). IsFile (store.contents c.args.instance.now) INSTANCE_LIMIT bytes) (sym c.deref.ensures.value)
-    c.in_ok-first.ensures.stage in
-    Answers-wider
-    (λ answer. (most_terms < bound_size c.in_ok-league.league)
-    × (answer ≡ too_large (bound_size c.in_ok-league.league))) _
-    (bounded-large store c.args.instance.now c.args.log.now _ _ is_first c.in_ok-league.ensures) _
-    (search rules)
+-- a file is refused
+pub returns-in-Err-Refused-clause-answer : goal.returns-in-Err-Refused-clause-answer
+returns-in-Err-Refused-clause-answer g c =
+    let store : Store = store_between g.S.Shelf c.args.shelf.now c.claim_in.new.shelf in
+    let stage = rw c.in-Err-Refused.field-0-is at c.in-Err-Refused.ensures.stage in
+    let refused : bounded store c.args.limit c.args.instance.now c.args.log.now (answer_of c.in-Err-Refused.refusal.reply) =
+    stage c.args.limit in
+    subst (λ (refusal : Refusal). bounded store c.args.limit c.args.instance.now c.args.log.now (answer_of refusal.reply))
+    (sym c.in-Err-Refused.refusal-is) refused

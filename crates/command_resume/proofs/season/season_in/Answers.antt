@@ -6,10 +6,11 @@ use Rattle.robinx_form.specs.SolutionFile.{solution_of}
 use Rattle.robinx_read.specs.declared.instance.TheConstants.{INSTANCE_LIMIT, SOLUTION_LIMIT}
 use Rattle.answers.specs.SeenReply.{IsMalformed}
 use Rattle.answers.specs.Stages.{IsFile, IsUnread, Outcome}
+use Rattle.command_check.proofs.StageLemmas.{stage-wider}
 use Rattle.command_resume.specs.Seasons.{has_size, has_slots}
 use Rattle.command_resume.specs.SeenSeason.{IsSaid}
 use Rattle.command_resume.specs.declared.season.Season.{Season}
-use Rattle.command_resume.proofs.StageLemmas.{plays-second_malformed, plays-second_unread, plays-too_long, stage-wider}
+use Rattle.command_resume.proofs.StageLemmas.{plays-second_malformed, plays-second_unread, plays-too_long}
 use Rattle.command_resume.proofs.StageLemmas.{raised-twice}
 use Rattle.command_resume.proofs.season.season_in.Goals as goal
 
@@ -45,13 +46,14 @@ pub returns-in_err-slots-clause-season : goal.returns-in_err-slots-clause-season
 returns-in_err-slots-clause-season g c =
     let store : Store = store_between g.S.Shelf c.args.shelf.now c.file.new.shelf in
     let never : Season → Outcome = λ season answer. ⊥ in
+    let said : Season → Type 0 = IsSaid store.contents c.args.instance.now c.args.solution.now c.args.k in
     let is_first : IsFile (store.contents c.args.instance.now) INSTANCE_LIMIT c.deref.result.now =
     subst (λ (bytes : List ℕ). IsFile (store.contents c.args.instance.now) INSTANCE_LIMIT bytes) (sym c.deref.ensures.value)
     c.in_ok-first.ensures.stage in
-    stage-wider (IsSaid store.contents c.args.instance.now c.args.solution.now c.args.k)
+    stage-wider said said
     (has_slots c.in_ok-league.league c.args.k
     (λ slots. has_size c.in_ok-league.league c.args.k (λ size answer. ⊥)))
-    _
+    _ (λ season is. is)
     (plays-too_long store c.args.instance.now c.args.solution.now c.args.k never
     c.deref.result.now c.in_ok-league.league is_first c.in_ok-league.ensures)
     c.from_residual-in_err-slots.result (search rules)
@@ -61,13 +63,14 @@ pub returns-in_err-second-clause-season : goal.returns-in_err-second-clause-seas
 returns-in_err-second-clause-season g c =
     let store : Store = store_between g.S.Shelf c.args.shelf.now c.file-2.new.shelf in
     let never : Season → Outcome = λ season answer. ⊥ in
+    let said : Season → Type 0 = IsSaid store.contents c.args.instance.now c.args.solution.now c.args.k in
     let is_first : IsFile (store.contents c.args.instance.now) INSTANCE_LIMIT c.deref.result.now =
     subst (λ (bytes : List ℕ). IsFile (store.contents c.args.instance.now) INSTANCE_LIMIT bytes) (sym c.deref.ensures.value)
     c.in_ok-first.ensures.stage in
-    stage-wider (IsSaid store.contents c.args.instance.now c.args.solution.now c.args.k)
+    stage-wider said said
     (λ answer. IsUnread (codes "solution") (store.contents c.args.solution.now) SOLUTION_LIMIT
     (store.took_more (length c.deref.result.now + SOLUTION_LIMIT)) (store.failed c.args.solution.now) answer)
-    _
+    _ (λ season is. is)
     (plays-second_unread store c.args.instance.now c.args.solution.now c.args.k never
     c.deref.result.now c.in_ok-league.league is_first c.in_ok-league.ensures c.in_ok-slots.ensures.1
     c.in_ok-slots.ensures.2)
@@ -78,6 +81,7 @@ pub returns-in_err-played-clause-season : goal.returns-in_err-played-clause-seas
 returns-in_err-played-clause-season g c =
     let store : Store = store_between g.S.Shelf c.args.shelf.now c.file-2.new.shelf in
     let never : Season → Outcome = λ season answer. ⊥ in
+    let said : Season → Type 0 = IsSaid store.contents c.args.instance.now c.args.solution.now c.args.k in
     let is_first : IsFile (store.contents c.args.instance.now) INSTANCE_LIMIT c.deref.result.now =
     subst (λ (bytes : List ℕ). IsFile (store.contents c.args.instance.now) INSTANCE_LIMIT bytes) (sym c.deref.ensures.value)
     c.in_ok-first.ensures.stage in
@@ -86,8 +90,8 @@ returns-in_err-played-clause-season g c =
     (sym c.deref-2.ensures.value)
     (subst (λ (known : Option (List ℕ)). IsFile known SOLUTION_LIMIT c.in_ok-second.second.items)
     (c.in_ok-first.ensures.contents c.args.solution.now) c.in_ok-second.ensures.stage) in
-    stage-wider (IsSaid store.contents c.args.instance.now c.args.solution.now c.args.k)
-    (IsMalformed (codes "solution") (solution_of c.in_ok-league.league.n (pieces c.deref-2.result.now))) _
+    stage-wider said said
+    (IsMalformed (codes "solution") (solution_of c.in_ok-league.league.n (pieces c.deref-2.result.now))) _ (λ season is. is)
     (plays-second_malformed store c.args.instance.now c.args.solution.now c.args.k never
     c.deref.result.now c.deref-2.result.now c.in_ok-league.league is_first c.in_ok-league.ensures
     c.in_ok-slots.ensures.1 c.in_ok-slots.ensures.2 is_second)

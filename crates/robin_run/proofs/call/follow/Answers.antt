@@ -55,7 +55,7 @@ pub returns-in-Check-clause-answer : goal.returns-in-Check-clause-answer
 returns-in-Check-clause-answer g c =
     rw c.in-Check.is
     (given-gives
-    (checked (store_between g.S.Shelf c.args.shelf.now c.check.new.shelf) c.in-Check.instance.now c.in-Check.log.now)
+    (checked (store_between g.S.Shelf c.args.shelf.now c.check.new.shelf) c.args.limit c.in-Check.instance.now c.in-Check.log.now)
     _ _ c.give-in-Check.ensures c.check.ensures.answer)
 
 pub returns-in-Solve-clause-answer : goal.returns-in-Solve-clause-answer
@@ -107,7 +107,8 @@ pub returns-in-Bound-clause-answer : goal.returns-in-Bound-clause-answer
 returns-in-Bound-clause-answer g c =
     rw c.in-Bound.is
     (given-gives
-    (bounded (store_between g.S.Shelf c.args.shelf.now c.bound_file.new.shelf) c.in-Bound.instance.now c.in-Bound.log.now)
+    (bounded (store_between g.S.Shelf c.args.shelf.now c.bound_file.new.shelf) c.args.limit c.in-Bound.instance.now
+    c.in-Bound.log.now)
     _ _ c.give-in-Bound.ensures c.bound_file.ensures.answer)
 
 pub returns-in-Resume-clause-answer : goal.returns-in-Resume-clause-answer
@@ -130,7 +131,7 @@ pub returns-in-Audit-clause-answer : goal.returns-in-Audit-clause-answer
 returns-in-Audit-clause-answer g c =
     rw c.in-Audit.is
     (given-gives
-    (audited (store_between g.S.Shelf c.args.shelf.now c.audit_file.new.shelf) c.in-Audit.instance.now c.in-Audit.solution.now c.in-Audit.k c.in-Audit.log.now)
+    (audited (store_between g.S.Shelf c.args.shelf.now c.audit_file.new.shelf) c.args.limit c.in-Audit.instance.now c.in-Audit.solution.now c.in-Audit.k c.in-Audit.log.now)
     _ _ c.give-in-Audit.ensures c.audit_file.ensures.answer)
 
 pub returns-in-Values-clause-answer : goal.returns-in-Values-clause-answer

@@ -1,9 +1,7 @@
 use Rattle.std.proofs.Common.{subst}
-use Rattle.encoding_base.specs.Encoding.{rows_of}
-use Rattle.encoding_base.specs.Variables.{var_count}
-use Rattle.clause_search.specs.Answers.{IsAnswer}
 use Rattle.clause_search.specs.declared.found.Found.{Found}
-use Rattle.solve.proofs.AnswerLemmas.{few_variables, refuted-tried, spent}
+use Rattle.league_search.specs.Answers.{IsLeagueAnswer}
+use Rattle.solve.proofs.AnswerLemmas.{refuted-tried}
 use Rattle.solve.proofs.KeptLemmas.{tried-season, with-conflicts}
 use Rattle.solve.proofs.attempt.answer.Goals as goal
 
@@ -19,10 +17,8 @@ returns-in-Refuted g c = record {
       c.requires.found.is_kept;
   is_tried = refuted-tried c.args.encoding.now c.requires.found.kept c.in-Refuted.log
       c.vars-vars.ensures.instance
-      (few_variables c.args.encoding.now c.vars-vars.result c.vars-vars.ensures.vars c.vars-vars.ensures.at_most)
-      (subst
-      (λ (f : Found). IsAnswer (rows_of c.args.encoding.now) (var_count c.args.encoding.now) c.requires.found.kept f)
-      c.in-Refuted.is c.requires.found.answer);
+      (subst (λ (f : Found). IsLeagueAnswer c.args.encoding.now c.requires.found.kept f) c.in-Refuted.is
+      c.requires.found.answer);
 }
 
 pub returns-in-Spent : goal.returns-in-Spent
@@ -30,9 +26,6 @@ returns-in-Spent g c = record {
   kept = record c.args.budgets { conflicts = c.requires.found.kept };
   are_kept = with-conflicts c.args.budgets (g.W.Watch.may_stop c.args.watch.now) c.requires.found.kept
       c.requires.found.is_kept;
-  is_tried = spent c.args.encoding.now c.requires.found.kept c.in-Spent.log
-      (few_variables c.args.encoding.now c.vars-vars.result c.vars-vars.ensures.vars c.vars-vars.ensures.at_most)
-      (subst
-      (λ (f : Found). IsAnswer (rows_of c.args.encoding.now) (var_count c.args.encoding.now) c.requires.found.kept f)
-      c.in-Spent.is c.requires.found.answer);
+  is_tried = subst (λ (f : Found). IsLeagueAnswer c.args.encoding.now c.requires.found.kept f) c.in-Spent.is
+      c.requires.found.answer;
 }
