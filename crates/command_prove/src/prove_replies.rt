@@ -16,9 +16,11 @@ ghost use Rattle.command_prove.specs.Told.{CanBeWritten, Tells, TellsFloored, Te
 
 use answers::{Reply, Status};
 use bounds::{Counted, Proved, certificate_text};
-use floors::{Floor, floor_of};
+use floors::Floor;
 use league::{League, Schedule};
+use plane_floors::best_floor;
 use refutation::{Log, log_text};
+use robin_watch::Watch;
 use robinx_write::solution_text;
 use std::alloc::{AllocError, Global};
 
@@ -77,17 +79,19 @@ fn spent_reply(alloc: Global, cost: u128, floor: &Floor, log: &Log) -> Result<Re
 
 /// What is written where the budget is spent: the league's floor is found. Its certificate is written alone if it shows
 /// that the schedule's objective is the least, and else between this and the log.
-fn floored_reply(
+fn floored_reply<W: Watch>(
     alloc: Global,
     league: &League,
     counted: Counted,
     log: &Log,
+    conflicts: Option<u64>,
+    watch: &W,
 ) -> Result<Reply, AllocError>
     requires counted { IsCounted league.now counted.terms }
     requires log { All NamesRows log.now }
     ensures { IfOk result (λ reply. TellsFloored league.now counted.cost log.now (answer_of reply)) }
 {
-    let floor = floor_of(alloc, league, counted.terms)?;
+    let floor = best_floor(alloc, league, counted.cost, counted.terms, conflicts, watch)?;
     // No accepted schedule costs less than the floor: one that costs no more costs just as much.
     if counted.cost <= u128::from(floor.bound) {
         return least_reply(alloc, floor.bound, &floor.log);
@@ -96,11 +100,13 @@ fn floored_reply(
 }
 
 /// What is shown of an accepted schedule.
-pub(crate) fn proof_reply(
+pub(crate) fn proof_reply<W: Watch>(
     alloc: Global,
     league: &League,
     counted: Counted,
     proved: &Proved,
+    conflicts: Option<u64>,
+    watch: &W,
 ) -> Result<Reply, AllocError>
     requires counted { IsCounted league.now counted.terms }
     requires written { CanBeWritten proved.now }
@@ -112,6 +118,6 @@ pub(crate) fn proof_reply(
             schedule,
             objective,
         } => better_reply(alloc, schedule, *objective),
-        Proved::Spent { log } => floored_reply(alloc, league, counted, log),
+        Proved::Spent { log } => floored_reply(alloc, league, counted, log, conflicts, watch),
     }
 }

@@ -42,7 +42,7 @@ fn show<W: Watch>(
     let cost = assessed.objective;
     let counted = Counted { cost, terms };
     let proved = prove(alloc, league, schedule, counted, conflicts, watch)?;
-    proof_reply(alloc, league, counted, &proved)
+    proof_reply(alloc, league, counted, &proved, conflicts, watch)
 }
 
 /// Shows that the schedule of one file can't be bettered in the league of the other, betters it, or spends its budget

@@ -2,7 +2,9 @@
 //! proves it. The law of the fewest breaks gives the rows with which the search begins.
 #![tactic(auto)]
 
+mod best;
 mod floor;
 mod start;
 
+pub use best::best_floor;
 pub use floor::plane_floor;

@@ -1,5 +1,5 @@
 //! Groups of literals of which exactly one is true.
-ghost use Rattle.std.specs.Prelude.{◌≡◌, ◌<◌, ◌+◌, length};
+ghost use Rattle.std.specs.Prelude.{◌≡◌, ◌<◌, ◌≤◌, length};
 
 use rows::{Lit, RowStore, Term};
 
@@ -19,7 +19,7 @@ pub(crate) struct Groups {
 pub(crate) fn groups_of(rows: &RowStore) -> Option<Groups> {
     let mut first = None;
     for place in 1..rows.len() {
-        if !is_group(rows, place - 1) {
+        if !is_group(rows, place) {
             continue;
         }
         let Some(least) = first else {
@@ -53,18 +53,19 @@ fn groups_at(rows: &RowStore, least: usize, others: usize) -> Option<Groups> {
     })
 }
 
-/// Whether the row at a place says that at least one of two literals or more is true, and the next row that at most one
-/// is.
+/// Whether the row before a place says that at least one of two literals or more is true, and that at the place that at
+/// most one is.
 fn is_group(rows: &RowStore, place: usize) -> bool
-    requires { place + 1 < length rows.now }
+    requires later { 1 ≤ place }
+    requires there { place < length rows.now }
 {
-    let least = rows.terms(place);
-    let most = rows.terms(place + 1);
+    let least = rows.terms(place - 1);
+    let most = rows.terms(place);
     if least.len() < 2 || least.len() != most.len() {
         return false;
     }
     let others = least.len() as u64 - 1;
-    rows.degree(place) == 1 && rows.degree(place + 1) == others && are_opposite(least, most)
+    rows.degree(place - 1) == 1 && rows.degree(place) == others && are_opposite(least, most)
 }
 
 /// Whether all coefficients are 1, and each literal of the one row is the negation of that of the other at its place.

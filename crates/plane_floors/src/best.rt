@@ -1,0 +1,49 @@
+//! The best floor that is found.
+ghost use Rattle.std.specs.Prelude.{IfOk};
+ghost use Rattle.bound_rows.specs.Bounded.{IsCounted};
+ghost use Rattle.floors.specs.Floors.{IsFloor};
+
+use crate::floor::plane_floor;
+use floors::{Floor, floor_of};
+use league::League;
+use robin_watch::Watch;
+use std::alloc::{AllocError, Global};
+
+/// A search over more terms isn't tried: each of its conflicts takes long.
+const MOST_TERMS: u64 = 200_000;
+
+/// A search learns at most so many rows.
+const MOST_ROWS: u64 = 100_000;
+
+/// A floor of a league of which a season costs so much: the one that laws give, or that cost itself, where a search by
+/// cutting planes proves that no season costs less. The search learns at most as many rows as the conflicts allow, and no
+/// more than 100,000; where the bound rows have more than 200,000 terms, there is none. `terms` is how many they have, as
+/// `bound_terms` of `bound_rows` counts them. How large the floor is isn't promised.
+///
+/// # Errors
+/// Only where memory runs out.
+pub fn best_floor<W: Watch>(
+    alloc: Global,
+    league: &League,
+    cost: u128,
+    terms: u64,
+    conflicts: Option<u64>,
+    watch: &W,
+) -> Result<Floor, AllocError>
+    requires { IsCounted league.now terms }
+    ensures { IfOk result (IsFloor league.now) }
+{
+    let floor = floor_of(alloc, league, terms)?;
+    if cost <= u128::from(floor.bound) || terms > MOST_TERMS {
+        return Ok(floor);
+    }
+    let Ok(bound) = u64::try_from(cost) else {
+        return Ok(floor);
+    };
+    let limit = conflicts.unwrap_or(MOST_ROWS).min(MOST_ROWS);
+    let found = plane_floor(alloc, league, bound, terms, limit, watch)?;
+    if let Some(higher) = found {
+        return Ok(higher);
+    }
+    Ok(floor)
+}
