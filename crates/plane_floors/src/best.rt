@@ -17,7 +17,7 @@ const MOST_ROWS: u64 = 100_000;
 
 /// A floor of a league of which a season costs so much: the one that laws give, or that cost itself, where a search by
 /// cutting planes proves that no season costs less. The search learns at most as many rows as the conflicts allow, and no
-/// more than 100,000; where the bound rows have more than 200,000 terms, there is none. `terms` is how many they have, as
+/// more than 100,000; where these allow none, or the bound rows have more than 200,000 terms, there is no search. `terms` is how many they have, as
 /// `bound_terms` of `bound_rows` counts them. How large the floor is isn't promised.
 ///
 /// # Errors
@@ -34,13 +34,13 @@ pub fn best_floor<W: Watch>(
     ensures { IfOk result (IsFloor league.now) }
 {
     let floor = floor_of(alloc, league, terms)?;
-    if cost <= u128::from(floor.bound) || terms > MOST_TERMS {
+    let limit = conflicts.unwrap_or(MOST_ROWS).min(MOST_ROWS);
+    if cost <= u128::from(floor.bound) || terms > MOST_TERMS || limit == 0 {
         return Ok(floor);
     }
     let Ok(bound) = u64::try_from(cost) else {
         return Ok(floor);
     };
-    let limit = conflicts.unwrap_or(MOST_ROWS).min(MOST_ROWS);
     let found = plane_floor(alloc, league, bound, terms, limit, watch)?;
     if let Some(higher) = found {
         return Ok(higher);
