@@ -19,27 +19,46 @@ pub(crate) fn start_of(alloc: Global, league: &League, rows: u64) -> Result<Star
     let mut writer = Writer::new(alloc, rows);
     let mut derived = Vec::new(alloc);
     if needs_breaks(league.constraints()) {
-        let frame = Frame::new(league);
-        let half = frame.n - 1;
-        if league.phased() {
-            for first in [0, half] {
-                let count = half;
-                let row = law_of(alloc, &mut writer, frame, Stretch { first, count })?;
-                derived.push(row)?;
-            }
-        } else {
-            let season = Stretch {
-                first: 0,
-                count: frame.slots,
-            };
-            let row = law_of(alloc, &mut writer, frame, season)?;
-            derived.push(row)?;
-        }
+        add_laws(alloc, league, &mut writer, &mut derived)?;
     }
     Ok(Start {
         steps: writer.finish(),
         derived,
     })
+}
+
+/// Writes the law for each half of a phased league, or for the season of another.
+fn add_laws(
+    alloc: Global,
+    league: &League,
+    writer: &mut Writer,
+    derived: &mut Vec<Derived>,
+) -> Result<(), AllocError> {
+    let n = league.n();
+    let frame = Frame::new(league);
+    let half = n - 1;
+    if !league.phased() {
+        let season = Stretch {
+            first: 0,
+            count: frame.slots,
+        };
+        let law = law_of(alloc, writer, frame, season)?;
+        derived.push(law)?;
+        return Ok(());
+    }
+    let first = Stretch {
+        first: 0,
+        count: half,
+    };
+    let second = Stretch {
+        first: half,
+        count: half,
+    };
+    let law = law_of(alloc, writer, frame, first)?;
+    derived.push(law)?;
+    let law = law_of(alloc, writer, frame, second)?;
+    derived.push(law)?;
+    Ok(())
 }
 
 /// Writes that in a stretch in which each two teams meet all teams but two have a break at least.
