@@ -1,5 +1,9 @@
+use Rattle.std.proofs.Common.{subst, sym}
 use Rattle.robin_io.specs.Outside.{Store, store_between}
+use Rattle.answers.specs.SeenReply.{answer_of}
+use Rattle.answers.specs.declared.refusal.Refusal.{Refusal}
 use Rattle.answers.proofs.StageLemmas.{Answers-wider}
+use Rattle.command_prove.specs.Bound.{bounded}
 use Rattle.command_prove.proofs.BoundStages.{bounded-said}
 use Rattle.command_prove.proofs.bound_stages.bound_file.Goals as goal
 
@@ -22,5 +26,9 @@ returns-in-Ok-clause-full g c = λ is. record {
 -- a file is refused
 pub returns-in-Err-Refused-clause-answer : goal.returns-in-Err-Refused-clause-answer
 returns-in-Err-Refused-clause-answer g c =
-    let refused = rw c.in-Err-Refused.field-0-is at c.in-Err-Refused.ensures.stage in
-    refused c.args.limit
+    let store : Store = store_between g.S.Shelf c.args.shelf.now c.claim_in.new.shelf in
+    let stage = rw c.in-Err-Refused.field-0-is at c.in-Err-Refused.ensures.stage in
+    let refused : bounded store c.args.limit c.args.instance.now c.args.log.now (answer_of c.in-Err-Refused.refusal.reply) =
+    stage c.args.limit in
+    subst (λ (refusal : Refusal). bounded store c.args.limit c.args.instance.now c.args.log.now (answer_of refusal.reply))
+    (sym c.in-Err-Refused.refusal-is) refused

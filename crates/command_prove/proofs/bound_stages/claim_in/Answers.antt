@@ -48,7 +48,7 @@ returns-in_err-first-clause-stage g c =
     let store : Store = store_between g.S.Shelf c.args.shelf.now c.file.new.shelf in
     stage-wider _
     (IsUnread (codes "instance") (store.contents c.args.instance.now) INSTANCE_LIMIT (store.took_more INSTANCE_LIMIT)
-    (store.failed c.args.instance.now)) _ (λ answer unread room. inr unread) c.from_residual-in_err-first.result
+    (store.failed c.args.instance.now)) _ (λ answer unread room. inr unread) c.from_residual.result
     (search rules)
 
 -- the instance has a fault of form
