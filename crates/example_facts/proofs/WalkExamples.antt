@@ -3,6 +3,7 @@
 use Rattle.std.proofs.Common.{lit<, lit≤, ◌≡◌, ℕ, ◌-◌, ◌*◌, ◌^◌, ◌≤◌, true, false, if◌then◌else◌}
 use Rattle.std.proofs.Common.{List, [], ◌∷◌, Option, Some, None, Ok, codes, bytes_eq, ap, sym, refl, inl}
 use Rattle.std.proofs.Common.{arith, IsTrue}
+use Rattle.std.proofs.lemmas.List.{append-nil}
 use Rattle.std.specs.Fmt.{digits}
 use Rattle.std.specs.Ordering.{is_le}
 use Rattle.example_facts.proofs.Runs.{ended_with, store_of}
@@ -45,7 +46,7 @@ use Rattle.refutation.specs.Steps.{Step}
 use Rattle.refutation.specs.Steps.Step.{Clause}
 use Rattle.refutation.specs.declared.verdict.Cause.TheVariants.{NoConflict}
 use Rattle.refutation.specs.declared.verdict.Verdict.TheVariants.{Accepted, Rejected}
-use Rattle.command_check.specs.Check.{IsVerdict, IsWellFormedLog, checked, most_log_bytes}
+use Rattle.command_check.specs.Check.{IsVerdict, IsWellFormedLog, LacksRoom, checked, most_log_bytes}
 use Rattle.command_check.specs.Check.{verdict_answer}
 use Rattle.example_facts.proofs.SolveExamples.{accepted_home, false_true, fits_home, home, ordered_home}
 use Rattle.example_facts.proofs.DescentExamples.{lowers-home}
@@ -355,3 +356,14 @@ file_log = record { same = refl; within = omega arith }
 pub checked-stages : checked (store_of contents nowhere) (Some 136) (codes "apart") (codes "log") accepted_reply
 unfolding attributes_at pieces_from walk lines_from
 checked-stages = inl (league_file, file_league, inl (small, inl (log_file, file_log, verdict-apart)))
+
+-- where there is room for a byte less, both steps pass it
+pub lacks-apart : LacksRoom (store_of contents nowhere) (Some 135) (codes "apart") (codes "log")
+unfolding attributes_at pieces_from walk lines_from
+lacks-apart = record {
+  first = league_file;
+  first_file = file_league;
+  league = apart;
+  says_league = says_league;
+  passes = record { front = log_file; begins = ([], sym (append-nil log_file)); passes = (2, lit≤ tt, refl) };
+}

@@ -1,11 +1,15 @@
-use Rattle.std.proofs.Common.{ℕ, List, Option, subst}
+use Rattle.std.proofs.Common.{ℕ, List, Option, subst, sym}
 use Rattle.robin_io.specs.Outside.{Store, store_between}
 use Rattle.robin_io.proofs.StoreLemmas.{rest-between}
 use Rattle.league.specs.Counts.{counts_of}
 use Rattle.encoding_base.specs.Variables.{var_count}
+use Rattle.answers.specs.SeenReply.{answer_of}
+use Rattle.answers.specs.Stages.{Outcome}
+use Rattle.answers.specs.declared.refusal.Refusal.{Refusal}
 use Rattle.answers.proofs.StageLemmas.{Answers-wider}
 use Rattle.command_check.specs.Check.{LogPassesRoom}
 use Rattle.resume_rows.specs.Kept.{resume_rows}
+use Rattle.command_resume.specs.Audited.{audited}
 use Rattle.command_resume.specs.declared.season.Season.{Season}
 use Rattle.command_resume.proofs.StageLemmas.{at_log, audited-within, plays-wider}
 use Rattle.command_resume.proofs.audited.audit_file.Goals as goal
@@ -52,6 +56,12 @@ returns-in-Ok-clause-full g c = λ is.
 pub returns-in-Err-Refused-clause-answer : goal.returns-in-Err-Refused-clause-answer
 returns-in-Err-Refused-clause-answer g c =
     let store : Store = store_between g.S.Shelf c.args.shelf.now c.season_in.new.shelf in
-    let refused = rw c.in-Err-Refused.field-0-is at c.in-Err-Refused.ensures.season in
-    plays-wider store c.args.instance.now c.args.solution.now c.args.audit.k (λ season answer. ⊥)
-    (at_log store c.args.audit.limit c.args.log.now c.args.audit.k) _ (λ season none. absurd none) refused
+    let never : Season → Outcome = λ season answer. ⊥ in
+    let whole : Outcome =
+    audited store c.args.audit.limit c.args.instance.now c.args.solution.now c.args.audit.k c.args.log.now in
+    let season = rw c.in-Err-Refused.field-0-is at c.in-Err-Refused.ensures.season in
+    let refused : whole (answer_of c.in-Err-Refused.refusal.reply) =
+    plays-wider store c.args.instance.now c.args.solution.now c.args.audit.k never
+    (at_log store c.args.audit.limit c.args.log.now c.args.audit.k) (answer_of c.in-Err-Refused.refusal.reply)
+    (λ season none. absurd none) season in
+    subst (λ (refusal : Refusal). whole (answer_of refusal.reply)) (sym c.in-Err-Refused.refusal-is) refused
