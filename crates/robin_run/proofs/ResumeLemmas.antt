@@ -95,12 +95,12 @@ audits run answered instance solution k log is = record {
       given);
   within = λ league played steps good ended.
       elim ended [
-        | inl yes ↦
-            let whole = writes-as run (Audit instance solution k log) Yes answered is yes (λ same. cc) (λ same. cc) in
+        | inl accepted ↦
+            let whole = writes-as run (Audit instance solution k log) Yes answered is accepted (λ same. cc) (λ same. cc) in
             audited-kept run.store run.room instance solution k log league played steps whole.answer good
             (answered-as whole.answer Yes whole.status_is (λ same. cc) (λ same. cc)) whole.given
-        | inr no ↦
-            let whole = writes-as run (Audit instance solution k log) No answered is no (λ same. cc) (λ same. cc) in
+        | inr rejected ↦
+            let whole = writes-as run (Audit instance solution k log) No answered is rejected (λ same. cc) (λ same. cc) in
             audited-kept run.store run.room instance solution k log league played steps whole.answer good
             (answered-as whole.answer No whole.status_is (λ same. cc) (λ same. cc)) whole.given
       ];
