@@ -8,6 +8,6 @@ use Rattle.plane_floors.proofs.floor.searched.Goals as goal
 pub refute-requires : goal.refute-requires
 refute-requires g c =
     let system = c.args.system.now in
-    subst (λ (rows : List Row). AreWithin c.vars.result rows) (sym c.rows.ensures)
+    subst (λ (rows : List Row). AreWithin c.vars.result rows) (sym c.rows-rows.ensures)
     (subst (λ (vars : ℕ). AreWithin vars (bound_rows system.league system.bound)) (sym c.vars.ensures.vars)
     (within-from_known (bound_vars system.league) (bound_rows system.league system.bound) c.vars.ensures.known))
