@@ -1,5 +1,5 @@
 -- What follows from an answer of `prove`.
-use Rattle.std.proofs.Common.{◌∷◌, [], ◌≡◌, ◌⊎◌, ℕ, ◌+◌, List, length, Option, Some, Ok, codes, ap, true, inl, inr, sym, subst, ◌∙◌}
+use Rattle.std.proofs.Common.{◌∷◌, [], ◌≡◌, ◌⊎◌, ℕ, ◌+◌, List, length, Option, Some, Ok, codes, true, inl, inr, sym, ◌∙◌}
 use Rattle.std.proofs.Common.{Bool, false, if◌then◌else◌}
 use Rattle.std.specs.Prelude.{IsTrue}
 use Rattle.robin_io.specs.Outside.{Store}

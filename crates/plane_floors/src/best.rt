@@ -17,8 +17,8 @@ const MOST_ROWS: u64 = 100_000;
 
 /// A floor of a league of which a season costs so much: the one that laws give, or that cost itself, where a search by
 /// cutting planes proves that no season costs less. The search learns at most as many rows as the conflicts allow, and no
-/// more than 100,000; where these allow none, or the bound rows have more than 200,000 terms, there is no search. `terms` is how many they have, as
-/// `bound_terms` of `bound_rows` counts them. How large the floor is isn't promised.
+/// more than 100,000. Where these allow none, or the bound rows have more than 200,000 terms, there is no search. `terms`
+/// is how many they have, as `bound_terms` of `bound_rows` counts them. How large the floor is isn't promised.
 ///
 /// # Errors
 /// Only where memory runs out.

@@ -38,12 +38,7 @@ pub fn refute<W: Watch>(
 }
 
 /// A log, if it is accepted over the rows and its text can be written.
-fn checked(
-    alloc: Global,
-    rows: &RowStore,
-    vars: u32,
-    log: Log,
-) -> Result<Option<Log>, AllocError>
+fn checked(alloc: Global, rows: &RowStore, vars: u32, log: Log) -> Result<Option<Log>, AllocError>
     requires { AreWithin vars rows.now }
     ensures { IfOk result (λ found. IfSome found (IsRefutation rows.now vars)) }
 {

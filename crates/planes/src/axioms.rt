@@ -66,7 +66,11 @@ impl Axioms {
     ///
     /// # Errors
     /// Only where memory runs out.
-    pub(crate) fn number(&mut self, draft: &mut Draft, lit: Lit) -> Result<Option<u64>, AllocError> {
+    pub(crate) fn number(
+        &mut self,
+        draft: &mut Draft,
+        lit: Lit,
+    ) -> Result<Option<u64>, AllocError> {
         if self.first.is_empty() {
             return Ok(None);
         }

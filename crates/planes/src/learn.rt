@@ -51,33 +51,18 @@ pub(crate) fn end(desk: &mut Desk, row: usize) -> Result<(), AllocError> {
 }
 
 /// Plans the empty clause.
-fn plan_end(
-    trail: &Trail,
-    stock: &Stock,
-    tools: &mut Tools,
-    row: usize,
-) -> Result<(), AllocError> {
-    tools
-        .units
-        .plan_end(trail, stock, &mut tools.draft, row)
+fn plan_end(trail: &Trail, stock: &Stock, tools: &mut Tools, row: usize) -> Result<(), AllocError> {
+    tools.units.plan_end(trail, stock, &mut tools.draft, row)
 }
 
 /// The row to which an analysis came, once its step is planned, if its coefficients are of 32 bits.
-fn last_row(
-    alloc: Global,
-    trail: &Trail,
-    tools: &mut Tools,
-) -> Result<Option<Held>, AllocError> {
+fn last_row(alloc: Global, trail: &Trail, tools: &mut Tools) -> Result<Option<Held>, AllocError> {
     tools.plane.divide(&mut tools.draft, 1)?;
     learnt_row(alloc, trail, tools)
 }
 
 /// The row to which an analysis came, whose step is planned, if its coefficients are of 32 bits.
-fn learnt_row(
-    alloc: Global,
-    trail: &Trail,
-    tools: &mut Tools,
-) -> Result<Option<Held>, AllocError> {
+fn learnt_row(alloc: Global, trail: &Trail, tools: &mut Tools) -> Result<Option<Held>, AllocError> {
     let mut terms = Vec::new(alloc);
     for k in 0..tools.plane.len() {
         let Some((lit, count)) = tools.plane.term(k) else {

@@ -73,12 +73,12 @@ impl Plane {
 
     /// What a literal counts: 0 or less if its negation counts.
     pub(crate) fn coef(&self, lit: Lit) -> i64 {
-        let coef = self
-            .coefs
-            .get(lit.var() as usize)
-            .copied()
-            .unwrap_or(0);
-        if lit.positive() { coef } else { coef.saturating_neg() }
+        let coef = self.coefs.get(lit.var() as usize).copied().unwrap_or(0);
+        if lit.positive() {
+            coef
+        } else {
+            coef.saturating_neg()
+        }
     }
 
     /// How many variables had a part.

@@ -80,7 +80,12 @@ fn forcing_coef(tools: &Tools) -> i64 {
 
 /// Weakens the row so that it can be divided: each literal that isn't false at the end of a level to a multiple of the
 /// divisor, and false ones while the divided degree stays. It says whether it could.
-fn weaken_all(trail: &Trail, tools: &mut Tools, level: usize, divisor: i64) -> Result<bool, AllocError> {
+fn weaken_all(
+    trail: &Trail,
+    tools: &mut Tools,
+    level: usize,
+    divisor: i64,
+) -> Result<bool, AllocError> {
     for k in 0..tools.plane.len() {
         let Some((lit, coef)) = tools.plane.term(k) else {
             continue;

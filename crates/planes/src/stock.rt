@@ -133,7 +133,11 @@ impl Stock {
     ///
     /// # Errors
     /// Only where memory runs out.
-    pub(crate) fn count(&mut self, trail: &mut Trail, lit: Lit) -> Result<Option<usize>, AllocError> {
+    pub(crate) fn count(
+        &mut self,
+        trail: &mut Trail,
+        lit: Lit,
+    ) -> Result<Option<usize>, AllocError> {
         self.active.clear();
         if let Some(list) = self.spots.get(slot(lit.negate())) {
             count_off(list, &mut self.counts, &mut self.active)?;
@@ -220,7 +224,11 @@ fn list_spots(spots: &mut [Vec<Spot>], at: usize, terms: &[Term]) -> Result<i64,
 }
 
 /// A literal became false that stands there.
-fn count_off(spots: &[Spot], counts: &mut [Count], active: &mut Vec<u32>) -> Result<(), AllocError> {
+fn count_off(
+    spots: &[Spot],
+    counts: &mut [Count],
+    active: &mut Vec<u32>,
+) -> Result<(), AllocError> {
     for place in spots {
         if let Some(count) = counts.get_mut(place.row as usize) {
             count.slack = count.slack.saturating_sub(i64::from(place.coef));
@@ -242,7 +250,12 @@ fn count_on(spots: &[Spot], counts: &mut [Count]) {
 }
 
 /// Makes what the row at a place forces true, and says whether it is in conflict.
-fn force(held: &[Held], counts: &[Count], at: usize, trail: &mut Trail) -> Result<bool, AllocError> {
+fn force(
+    held: &[Held],
+    counts: &[Count],
+    at: usize,
+    trail: &mut Trail,
+) -> Result<bool, AllocError> {
     let Some(row) = held.get(at) else {
         return Ok(false);
     };

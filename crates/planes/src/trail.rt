@@ -78,7 +78,11 @@ impl Trail {
             .get(lit.var() as usize)
             .copied()
             .unwrap_or(Value::Free);
-        if lit.positive() { value } else { opposite(value) }
+        if lit.positive() {
+            value
+        } else {
+            opposite(value)
+        }
     }
 
     /// How a literal stands.
@@ -87,11 +91,7 @@ impl Trail {
         if let Value::Free = value {
             return Standing::Free;
         }
-        let place = self
-            .places
-            .get(lit.var() as usize)
-            .copied()
-            .unwrap_or(0);
+        let place = self.places.get(lit.var() as usize).copied().unwrap_or(0);
         let Some(entry) = self.entry(place) else {
             return Standing::Free;
         };

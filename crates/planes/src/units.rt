@@ -29,10 +29,7 @@ impl Units {
 
     /// The number of the step of a literal's variable, or 0.
     pub(crate) fn number(&self, lit: Lit) -> u64 {
-        self.numbers
-            .get(lit.var() as usize)
-            .copied()
-            .unwrap_or(0)
+        self.numbers.get(lit.var() as usize).copied().unwrap_or(0)
     }
 
     /// Plans the steps of the entries of level 0 that have none yet, in their order.

@@ -16,12 +16,12 @@ checks run answered instance log is = record {
       (λ answer given. checked-well_formed run.store run.room instance log league steps answer good works.store given);
   within = λ league steps good ended.
       elim ended [
-        | inl yes ↦
-            let whole = writes-as run (Check instance log) Yes answered is yes (λ same. cc) (λ same. cc) in
+        | inl accepted ↦
+            let whole = writes-as run (Check instance log) Yes answered is accepted (λ same. cc) (λ same. cc) in
             checked-kept run.store run.room instance log league steps whole.answer good
             (answered-as whole.answer Yes whole.status_is (λ same. cc) (λ same. cc)) whole.given
-        | inr no ↦
-            let whole = writes-as run (Check instance log) No answered is no (λ same. cc) (λ same. cc) in
+        | inr rejected ↦
+            let whole = writes-as run (Check instance log) No answered is rejected (λ same. cc) (λ same. cc) in
             checked-kept run.store run.room instance log league steps whole.answer good
             (answered-as whole.answer No whole.status_is (λ same. cc) (λ same. cc)) whole.given
       ];

@@ -7,7 +7,6 @@ use Rattle.league.specs.Instance.{Instance}
 use Rattle.league.specs.declared.game.Game.{Game}
 use Rattle.robinx_tags.specs.Pieces.{pieces}
 use Rattle.robinx_form.specs.SolutionFile.{solution_of}
-use Rattle.robin_watch.specs.declared.budgets.Budgets.{Budgets}
 use Rattle.command_line.specs.Words.Command.{Audit, Resume, ResumeNear}
 use Rattle.answers.specs.Reply.{Answer}
 use Rattle.answers.specs.declared.status.Status.TheVariants.{Yes, No, Refuted}
@@ -95,12 +94,12 @@ audits run answered instance solution k log is = record {
       given);
   within = λ league played steps good ended.
       elim ended [
-        | inl yes ↦
-            let whole = writes-as run (Audit instance solution k log) Yes answered is yes (λ same. cc) (λ same. cc) in
+        | inl accepted ↦
+            let whole = writes-as run (Audit instance solution k log) Yes answered is accepted (λ same. cc) (λ same. cc) in
             audited-kept run.store run.room instance solution k log league played steps whole.answer good
             (answered-as whole.answer Yes whole.status_is (λ same. cc) (λ same. cc)) whole.given
-        | inr no ↦
-            let whole = writes-as run (Audit instance solution k log) No answered is no (λ same. cc) (λ same. cc) in
+        | inr rejected ↦
+            let whole = writes-as run (Audit instance solution k log) No answered is rejected (λ same. cc) (λ same. cc) in
             audited-kept run.store run.room instance solution k log league played steps whole.answer good
             (answered-as whole.answer No whole.status_is (λ same. cc) (λ same. cc)) whole.given
       ];
