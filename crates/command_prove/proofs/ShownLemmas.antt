@@ -223,16 +223,6 @@ replied-told {E} league limit may_stop games costs proved (Ok reply) same teams 
     shown-told league limit games costs proved (answer_of reply) same teams accepted is told
 replied-told {E} league limit may_stop games costs proved (Err error) same teams accepted is told = tt
 
--- a better schedule, told
-pub replied-better : {E : Type 0} (league : Instance) (cost : ℕ) (games : List Game) (less : ℕ) (proved : Proved)
-    (result : Result Reply E) → proved ≡ Better games less
-    → IfOk result (λ reply. (answer_of reply).status ≡ statuses.Better)
-    → IfOk result (λ reply. (answer_of reply).text ≡ solution_text games (Some (0, less)))
-    → IfOk result (λ reply. Tells league cost proved (answer_of reply))
-replied-better {E} league cost games less proved (Ok reply) is status text =
-    subst (λ (p : Proved). Tells league cost p (answer_of reply)) (sym is) (status, text)
-replied-better {E} league cost games less proved (Err error) is status text = tt
-
 -- a reply within the limit to which the search kept
 pub replied-by : {E : Type 0} (league : Instance) (limits : Option ℕ → Type 0) (may_stop : Type 0)
     (games : List Game) (result : Result Reply E) (conflicts : Option ℕ) → limits conflicts
