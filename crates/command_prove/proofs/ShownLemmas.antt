@@ -205,6 +205,15 @@ told-spent {E} league costs floor log (Ok reply) found below status text floor_r
 )
 told-spent {E} league costs floor log (Err error) found below status text floor_reads_back reads_back = tt
 
+pub told-better : {E : Type 0} (objective : ℕ) (games : List Game) (result : Result Reply E)
+    → IfOk result (λ reply. (answer_of reply).status ≡ statuses.Better)
+    → IfOk result (λ reply. (answer_of reply).text ≡ solution_text games (Some (0, objective)))
+    → IfOk result
+    (λ reply. ((answer_of reply).status ≡ statuses.Better)
+    × ((answer_of reply).text ≡ solution_text games (Some (0, objective))))
+told-better {E} objective games (Ok reply) status text = (status, text)
+told-better {E} objective games (Err error) status text = tt
+
 pub replied-rejected : {E : Type 0} (league : Instance) (conflicts : Option ℕ) (may_stop : Type 0)
     (games : List Game) (result : Result Reply E) → (IsAccepted league (counts_of games) → ⊥)
     → IfOk result (λ reply. IsJudgement league games (answer_of reply))
