@@ -15,10 +15,11 @@ use Rattle.league.specs.declared.class.Span.TheVariants.{Global, Every}
 use Rattle.league.proofs.SumLemmas.{sum_by-flat_map, sum_by-map, sum_by-same}
 use Rattle.rows.specs.Literals.{Literal}
 use Rattle.encoding_base.specs.Demands.{fa2_rows}
-use Rattle.encoding_base.specs.Keys.{key_of}
+use Rattle.encoding_base.specs.Keys.{key_of, places_of}
 use Rattle.encoding_base.specs.Lists.{away_breaks_at, breaks_in, games_in, home_breaks_at, meetings_in_order, venues_in}
 use Rattle.encoding_base.specs.declared.subjects.Subject.{Subject}
 use Rattle.encoding_base.specs.declared.subjects.Subject.TheVariants.{Whole, Team}
+use Rattle.encoding_sizes.proofs.AlikeKeys.{places_alike}
 use Rattle.encoding_sizes.proofs.SizeLemmas.{sum_by-constant}
 use Rattle.bound_rows.specs.Parts.{ca3_parts, parts_of}
 use Rattle.bound_rows.specs.Sizes.{between_size, key_size, lead_size, part_size, parts_size, subject_size, subjects_size}
@@ -48,6 +49,15 @@ sum_by-more f xs k x total more there so_far is more_is =
       sum_by-append f (take k xs) (get_or xs k x ∷ []),
       ap f is,
     )
+
+-- the keys of a subject are alike at all places
+pub subject_size-places : (n : ℕ) (class : Class) (subject : Subject) (first : ℕ) → has_bounds class ≡ true
+    → subject_size n class subject ≡ length (places_of n class) * key_size (key_of n class subject first)
+subject_size-places n class subject first bounds =
+    let size : ℕ → ℕ = λ place. key_size (key_of n class subject place) in
+    sum_by-same size (λ place. size first)
+    (λ place. places_alike between_size n class subject place first bounds) (places_of n class)
+    ∙ sum_by-constant (size first) (places_of n class)
 
 -- at one place
 once : (f : ℕ → ℕ) → f 0 ≡ sum_by f (0 ∷ [])

@@ -16,8 +16,7 @@ use encoding_base::{
 use encoding_sizes::literal_count;
 use league::{Class, ClassName};
 
-/// How many terms the groups of a class have that fits a league of n teams. The count takes no memory, and a step for
-/// each key.
+/// How many terms the groups of a class have that fits a league of n teams. It takes no memory.
 pub(crate) fn class_terms(n: u16, class: &Class) -> u64
     requires n { IsTeamCount n }
     requires fits { IsTrue (class_fits n class.now) }
@@ -46,9 +45,10 @@ fn counted_terms(n: u16, class: &Class) -> u64
     total
 }
 
-/// How many terms the groups of a subject have.
+/// How many terms the groups of a subject have whose games or breaks are counted: equally many at each place.
 fn subject_terms(n: u16, class: &Class, subject: Subject) -> u64
     requires n { IsTeamCount n }
+    requires bounds { IsTrue (has_bounds class.now) }
     requires fits { IsTrue (class_fits n class.now) }
     requires suits { IsTrue (suits class.now subject) }
     requires within { IsWithin n subject }
@@ -56,11 +56,11 @@ fn subject_terms(n: u16, class: &Class, subject: Subject) -> u64
     ensures most { result ≤ 1716000000000 }
 {
     let places = places_of(n, class);
-    let mut total = 0;
-    for place in places {
-        total += key_terms(n, class, subject, *place);
+    if places.is_empty() {
+        0
+    } else {
+        places.len() as u64 * key_terms(n, class, subject, places[0])
     }
-    total
 }
 
 /// How many terms the group of a key has.
