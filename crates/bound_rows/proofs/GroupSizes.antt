@@ -1,20 +1,21 @@
 -- How many terms a group has, by the number of literals of its rows.
-use Rattle.std.proofs.Common.{◌≡◌, ℕ, ◌+◌, ◌-◌, ◌*◌, max, List, [], ◌∷◌, ◌++◌, length, map, refl, ap, ◌∙◌}
+use Rattle.std.proofs.Common.{◌≡◌, ℕ, ◌+◌, ◌-◌, max, List, [], ◌∷◌, length, map, refl, ap, sym, ◌∙◌}
 use Rattle.std.proofs.Common.{arith, inl, inr}
 use Rattle.std.proofs.lemmas.Bool.{cases_lt, le-ltb, lt-ltb}
-use Rattle.std.proofs.lemmas.List.{length-append, length-map}
-use Rattle.std.proofs.lemmas.List.FromFn.{length-range_with_len}
-use Rattle.std.specs.List.{filter, fold, sum_by}
+use Rattle.std.proofs.lemmas.List.{length-map}
+use Rattle.std.specs.List.{filter, flat_map, fold, sum_by}
 use Rattle.league.specs.Bounds.{largest}
+use Rattle.league.specs.declared.class.Class.{Class}
 use Rattle.league.proofs.SumLemmas.{sum_by-filter, sum_by-flat_map, sum_by-same}
 use Rattle.rows.specs.Cardinality.{at_most, between, unit}
 use Rattle.rows.specs.Literals.{Literal, negate}
 use Rattle.rows.specs.Rows.{Row}
-use Rattle.encoding_base.specs.Demands.{fa2_rows, fa2_rows_at}
 use Rattle.encoding_base.specs.Encoding.{demands}
-use Rattle.encoding_base.specs.Lists.{at_home_in, away_in, slots_up_to}
-use Rattle.encoding_sizes.proofs.SizeLemmas.{length-at_home, length-away}
-use Rattle.bound_rows.specs.Sizes.{between_size, group_size, lead_size, lead_size_at, lead_units, row_size, units_size}
+use Rattle.encoding_base.specs.Keys.{Bounded, key_of, places_of, rows_of_subject}
+use Rattle.encoding_base.specs.declared.subjects.Subject.{Subject}
+use Rattle.encoding_base.proofs.KeyRowLemmas.{filter-flat_map}
+use Rattle.bound_rows.specs.Sizes.{between_size, between_units, bounds_size, group_size, key_rows_size, key_units}
+use Rattle.bound_rows.specs.Sizes.{row_size, shared_size, shared_units, units_size}
 
 -- a group of rows, of which only those are listed that demand something
 abbrev pub listed_size : List Row → ℕ
@@ -50,21 +51,27 @@ listed_size-rows rows =
 length-negated : (literals : List Literal) → length (map unit (map negate literals)) ≡ length literals
 length-negated literals = length-map (map negate literals) unit ∙ length-map literals negate
 
+-- the two rows, in a group with so many units
+rows_size-between : (units low high : ℕ) (literals : List Literal)
+    → sum_by (λ r. row_size units r.degree (length r.terms)) (between low high literals)
+    ≡ bounds_size units low high (length literals)
+rows_size-between units low high literals =
+    omega (
+      arith,
+      ap (row_size units low) (length-map literals unit),
+      ap (row_size units (length literals - high)) (length-negated literals),
+    )
+
 pub listed_size-between : (low high : ℕ) (literals : List Literal)
     → listed_size (between low high literals) ≡ between_size low high (length literals)
 listed_size-between low high literals =
-    let count : ℕ = length literals in
-    let units : ℕ = max (max 0 low) (count - high) in
-    let same : units ≡ max low (count - high) = omega arith in
-    let both : ℕ → ℕ → ℕ → ℕ = λ u first second.
-    row_size u low first + row_size u (count - high) second + units_size u in
-    let rows : both units (length (map unit literals)) (length (map unit (map negate literals)))
-    ≡ both (max low (count - high)) count count =
-    ap (λ (u : ℕ). both u (length (map unit literals)) (length (map unit (map negate literals)))) same
-    ∙ ap (λ (k : ℕ). both (max low (count - high)) k (length (map unit (map negate literals))))
-    (length-map literals unit)
-    ∙ ap (λ (k : ℕ). both (max low (count - high)) count k) (length-negated literals) in
-    omega (arith, listed_size-rows (between low high literals), rows)
+    let units : ℕ = between_units low high (length literals) in
+    let same : max (max 0 low) (length literals - high) ≡ units = omega arith in
+    let size : ℕ → ℕ = λ u.
+    sum_by (λ r. row_size u r.degree (length r.terms)) (between low high literals) + units_size u in
+    listed_size-rows (between low high literals)
+    ∙ ap size same
+    ∙ ap (λ (k : ℕ). k + units_size units) (rows_size-between units low high literals)
 
 -- from above alone
 pub listed_size-most : (high : ℕ) (literals : List Literal)
@@ -76,65 +83,33 @@ listed_size-most high literals =
     ap (row_size (max 0 beyond) beyond) (length-negated literals) in
     omega (arith, listed_size-rows (at_most high literals ∷ []), row)
 
--- ---- two teams of an FA2
+-- ---- the one group of all keys of a subject
 
-abbrev lead_from : ℕ → ℕ → List ℕ → ℕ
-lead_from intp a slots = fold (λ b s. max b (s + 1 - intp)) a slots
+-- its units: as many as any key wants
+largest-keys : (key : ℕ → Bounded) (a : ℕ) (places : List ℕ)
+    → largest_from a (flat_map (λ place. between (key place).low (key place).high (key place).literals) places)
+    ≡ fold (λ b place. max b (key_units (key place))) a places
+largest-keys key a [] = refl
+largest-keys key a (p ∷ places) =
+    let rows : ℕ → List Row = λ place. between (key place).low (key place).high (key place).literals in
+    let low : ℕ = (key p).low in
+    let beyond : ℕ = length (key p).literals - (key p).high in
+    let same : max (max a low) beyond ≡ max a (max low beyond) = omega arith in
+    ap (λ (b : ℕ). largest_from b (flat_map rows places)) same ∙ largest-keys key (max a (key_units (key p))) places
 
-largest-leads : (n intp : ℕ) (p : ℕ × ℕ) (a : ℕ) (slots : List ℕ)
-    → largest_from a (fa2_rows n intp slots p) ≡ lead_from intp a slots
-largest-leads n intp p a [] = refl
-largest-leads n intp p a (s ∷ slots) =
-    let d : ℕ = s + 1 - intp in
-    let same : max (max a d) d ≡ max a d = omega arith in
-    ap (λ (b : ℕ). largest_from b (fa2_rows n intp slots p)) same ∙ largest-leads n intp p (max a d) slots
-
--- one literal of each team for each slot so far
-lead_literals : (n i j s : ℕ)
-    → length (map unit (away_in n i (slots_up_to s) ++ at_home_in n j (slots_up_to s))) ≡ 2 * (s + 1)
-lead_literals n i j s =
-    let away : List Literal = away_in n i (slots_up_to s) in
-    let home : List Literal = at_home_in n j (slots_up_to s) in
-    omega (
-      arith,
-      length-map (away ++ home) unit,
-      length-append away home,
-      length-away n i (slots_up_to s),
-      length-at_home n j (slots_up_to s),
-      length-range_with_len 0 (s + 1),
-    )
-
-lag_literals : (n i j s : ℕ)
-    → length (map unit (at_home_in n i (slots_up_to s) ++ away_in n j (slots_up_to s))) ≡ 2 * (s + 1)
-lag_literals n i j s =
-    let home : List Literal = at_home_in n i (slots_up_to s) in
-    let away : List Literal = away_in n j (slots_up_to s) in
-    omega (
-      arith,
-      length-map (home ++ away) unit,
-      length-append home away,
-      length-at_home n i (slots_up_to s),
-      length-away n j (slots_up_to s),
-      length-range_with_len 0 (s + 1),
-    )
-
-size_at : (n intp units : ℕ) (p : ℕ × ℕ) (s : ℕ)
-    → sum_by (λ r. row_size units r.degree (length r.terms)) (fa2_rows_at n intp p s) ≡ lead_size_at units intp s
-size_at n intp units p s =
-    omega (
-      arith,
-      ap (row_size units (s + 1 - intp)) (lead_literals n p.0 p.1 s),
-      ap (row_size units (s + 1 - intp)) (lag_literals n p.0 p.1 s),
-    )
-
-pub listed_size-leads : (n intp : ℕ) (slots : List ℕ) (p : ℕ × ℕ)
-    → listed_size (fa2_rows n intp slots p) ≡ lead_size intp slots
-listed_size-leads n intp slots p =
+pub group_size-shared : (n : ℕ) (class : Class) (subject : Subject)
+    → group_size (largest (λ row. row.degree) (rows_of_subject n class subject)) (rows_of_subject n class subject)
+    ≡ shared_size n class subject
+group_size-shared n class subject =
+    let key : ℕ → Bounded = λ place. key_of n class subject place in
+    let rows : ℕ → List Row = λ place. between (key place).low (key place).high (key place).literals in
+    let places : List ℕ = places_of n class in
     let size : ℕ → Row → ℕ = λ u r. row_size u r.degree (length r.terms) in
-    let units : ℕ = lead_units intp slots in
-    listed_size-rows (fa2_rows n intp slots p)
-    ∙ ap (λ (u : ℕ). sum_by (size u) (fa2_rows n intp slots p) + units_size u) (largest-leads n intp p 0 slots)
+    let units : ℕ = shared_units n class subject in
+    ap (λ (rs : List Row). group_size (largest (λ row. row.degree) rs) rs) (sym (filter-flat_map demands rows places))
+    ∙ listed_size-rows (flat_map rows places)
+    ∙ ap (λ (u : ℕ). sum_by (size u) (flat_map rows places) + units_size u) (largest-keys key 0 places)
     ∙ ap (λ (k : ℕ). k + units_size units)
-    (sum_by-flat_map (size units) (fa2_rows_at n intp p) slots
-    ∙ sum_by-same (λ s. sum_by (size units) (fa2_rows_at n intp p s)) (lead_size_at units intp)
-    (size_at n intp units p) slots)
+    (sum_by-flat_map (size units) rows places
+    ∙ sum_by-same (λ place. sum_by (size units) (rows place)) (λ place. key_rows_size units (key place))
+    (λ place. rows_size-between units (key place).low (key place).high (key place).literals) places)

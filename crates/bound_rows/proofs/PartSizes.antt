@@ -1,38 +1,46 @@
 -- How many terms all parts of a class have, those of SE1 left out.
-use Rattle.std.proofs.Common.{◌≡◌, ℕ, ◌+◌, ◌-◌, ◌*◌, ◌<◌, true, List, [], ◌∷◌, ◌++◌, length, get_or, map, take, sym, ap, ◌∙◌, arith}
-use Rattle.std.proofs.lemmas.List.{append-nil, take_more}
+use Rattle.std.proofs.Common.{◌≡◌, ℕ, ◌+◌, ◌-◌, ◌*◌, ◌<◌, max, true, List, [], ◌∷◌, ◌++◌, length, get_or, map, take}
+use Rattle.std.proofs.Common.{refl, sym, ap, ◌∙◌, arith}
+use Rattle.std.proofs.lemmas.List.{append-nil, length-map, take_more}
 use Rattle.std.proofs.lemmas.List.Sums.{sum_by-append}
-use Rattle.std.specs.List.{filter, flat_map, range_with_len, sum_by}
+use Rattle.std.specs.List.{filter, flat_map, fold, range_with_len, sum_by}
+use Rattle.league.specs.Bounds.{largest}
 use Rattle.league.specs.Capacity.{is_between, windows_of}
 use Rattle.league.specs.Counts.{slot_count}
 use Rattle.league.specs.Meetings.{meetings_of, pairs_of}
+use Rattle.league.specs.Names.{name_of}
 use Rattle.league.specs.Shapes.{has_bounds}
 use Rattle.league.specs.declared.class.Class.{Class}
 use Rattle.league.specs.declared.class.Class.TheVariants.{Ca1, Ca2, Ca3, Ca4, Ga1, Br1, Br2, Fa2, Se1}
+use Rattle.league.specs.declared.class.ClassName.TheVariants as name
 use Rattle.league.specs.declared.class.Side.{Side}
 use Rattle.league.specs.declared.class.Span.{Span}
 use Rattle.league.specs.declared.class.Span.TheVariants.{Global, Every}
 use Rattle.league.proofs.SumLemmas.{sum_by-flat_map, sum_by-map, sum_by-same}
 use Rattle.rows.specs.Literals.{Literal}
-use Rattle.encoding_base.specs.Demands.{fa2_rows}
-use Rattle.encoding_base.specs.Keys.{key_of}
-use Rattle.encoding_base.specs.Lists.{away_breaks_at, breaks_in, games_in, home_breaks_at, meetings_in_order, venues_in}
+use Rattle.rows.specs.Rows.{Row}
+use Rattle.encoding_base.specs.Keys.{Bounded, key_of, places_of, rows_of_subject, subjects_of}
+use Rattle.encoding_base.specs.Lists.{away_breaks_at, breaks_in, games_in, home_breaks_at, meetings_in_order}
+use Rattle.encoding_base.specs.Lists.{slots_up_to, venues_in}
 use Rattle.encoding_base.specs.declared.subjects.Subject.{Subject}
-use Rattle.encoding_base.specs.declared.subjects.Subject.TheVariants.{Whole, Team}
+use Rattle.encoding_base.specs.declared.subjects.Subject.TheVariants.{Whole, Team, Pair}
+use Rattle.encoding_base.proofs.KeyLaws.{class_rows-keys}
+use Rattle.encoding_sizes.proofs.AlikeKeys.{measured, places_alike}
+use Rattle.encoding_sizes.proofs.ClassSizeLemmas.{length-lead}
 use Rattle.encoding_sizes.proofs.SizeLemmas.{sum_by-constant}
 use Rattle.bound_rows.specs.Parts.{ca3_parts, parts_of}
-use Rattle.bound_rows.specs.Sizes.{between_size, key_size, lead_size, part_size, parts_size, subject_size, subjects_size}
-use Rattle.bound_rows.proofs.CountLemmas.{times-comm}
-use Rattle.bound_rows.proofs.GroupSizes.{listed_size, listed_size-between, listed_size-leads, listed_size-most}
+use Rattle.bound_rows.specs.Sizes.{between_size, between_units, bounds_size, group_size, key_rows_size, key_size}
+use Rattle.bound_rows.specs.Sizes.{key_units, part_size, parts_size, shared_size, shared_units, subject_size}
+use Rattle.bound_rows.specs.Sizes.{subjects_size, units_size}
+use Rattle.bound_rows.proofs.GroupSizes.{group_size-shared, listed_size-between, listed_size-most}
 
 -- parts that all have as many terms
 alike : {K : Type 0} (n c : ℕ) (part : K → Class) → ((k : K) → part_size n (part k) ≡ c) → (keys : List K)
-    → c * length keys ≡ parts_size n (map part keys)
+    → parts_size n (map part keys) ≡ length keys * c
 alike n c part same keys =
-    times-comm c (length keys)
-    ∙ sym (sum_by-map (part_size n) part keys
+    sum_by-map (part_size n) part keys
     ∙ sum_by-same (λ k. part_size n (part k)) (λ k. c) same keys
-    ∙ sum_by-constant c keys)
+    ∙ sum_by-constant c keys
 
 -- ---- classes that count games or breaks
 
@@ -48,6 +56,15 @@ sum_by-more f xs k x total more there so_far is more_is =
       sum_by-append f (take k xs) (get_or xs k x ∷ []),
       ap f is,
     )
+
+-- the keys of a subject are alike at all places
+pub subject_size-places : (n : ℕ) (class : Class) (subject : Subject) (first : ℕ) → has_bounds class ≡ true
+    → subject_size n class subject ≡ length (places_of n class) * key_size (key_of n class subject first)
+subject_size-places n class subject first bounds =
+    let size : ℕ → ℕ = λ place. key_size (key_of n class subject place) in
+    sum_by-same size (λ place. size first)
+    (λ place. places_alike between_size n class subject place first bounds) (places_of n class)
+    ∙ sum_by-constant (size first) (places_of n class)
 
 -- at one place
 once : (f : ℕ → ℕ) → f 0 ≡ sum_by f (0 ∷ [])
@@ -172,13 +189,53 @@ parts_size-counted n (Se1 teams min) bounds = absurd (cc)
 
 -- ---- fairness
 
-fa2-part_size : (n intp : ℕ) (slots : List ℕ) (p : ℕ × ℕ)
-    → part_size n (Fa2 (p.0 ∷ p.1 ∷ []) intp slots) ≡ lead_size intp slots
-fa2-part_size n intp slots p =
-    ap listed_size (append-nil (fa2_rows n intp slots p)) ∙ listed_size-leads n intp slots p
+-- any two teams have as many literals at a slot as teams 0 and 1
+fa2-alike : (size : ℕ → ℕ → ℕ → ℕ) (n : ℕ) (teams : List ℕ) (intp : ℕ) (slots : List ℕ) (i j s : ℕ)
+    → measured size (key_of n (Fa2 teams intp slots) (Pair i j) s)
+    ≡ measured size (key_of n (Fa2 teams intp slots) (Pair 0 1) s)
+fa2-alike size n teams intp slots i j s =
+    ap (size (s + 1 - intp) (s + 1 + intp))
+    (sym (length-lead n i j (slots_up_to s)) ∙ length-lead n 0 1 (slots_up_to s))
 
-pub fa2-parts_size : (n : ℕ) (teams : List ℕ) (intp : ℕ) (slots : List ℕ)
-    → lead_size intp slots * length (pairs_of teams) ≡ parts_size n (parts_of n (Fa2 teams intp slots))
-fa2-parts_size n teams intp slots =
-    alike n (lead_size intp slots) (λ p. Fa2 (p.0 ∷ p.1 ∷ []) intp slots) (fa2-part_size n intp slots)
-    (pairs_of teams)
+largest-same : (f g : ℕ → ℕ) → ((x : ℕ) → f x ≡ g x) → (a : ℕ) (xs : List ℕ)
+    → fold (λ b x. max b (f x)) a xs ≡ fold (λ b x. max b (g x)) a xs
+largest-same f g same a [] = refl
+largest-same f g same a (x ∷ xs) =
+    ap (λ (y : ℕ). fold (λ b z. max b (f z)) (max a y) xs) (same x) ∙ largest-same f g same (max a (g x)) xs
+
+fa2-shared_size : (n : ℕ) (teams : List ℕ) (intp : ℕ) (slots : List ℕ) (i j : ℕ)
+    → shared_size n (Fa2 teams intp slots) (Pair i j) ≡ shared_size n (Fa2 teams intp slots) (Pair 0 1)
+fa2-shared_size n teams intp slots i j =
+    let key : ℕ → ℕ → ℕ → Bounded = λ i j place. key_of n (Fa2 teams intp slots) (Pair i j) place in
+    let size : ℕ → ℕ → ℕ → ℕ = λ u i j. sum_by (λ place. key_rows_size u (key i j place)) slots in
+    let units : ℕ = shared_units n (Fa2 teams intp slots) (Pair 0 1) in
+    ap (λ (u : ℕ). size u i j + units_size u)
+    (largest-same (λ place. key_units (key i j place)) (λ place. key_units (key 0 1 place))
+    (fa2-alike between_units n teams intp slots i j) 0 slots)
+    ∙ ap (λ (k : ℕ). k + units_size units)
+    (sum_by-same (λ place. key_rows_size units (key i j place)) (λ place. key_rows_size units (key 0 1 place))
+    (fa2-alike (bounds_size units) n teams intp slots i j) slots)
+
+fa2-part_size : (n : ℕ) (teams : List ℕ) (intp : ℕ) (slots : List ℕ) (p : ℕ × ℕ)
+    → part_size n (Fa2 (p.0 ∷ p.1 ∷ []) intp slots) ≡ shared_size n (Fa2 teams intp slots) (Pair 0 1)
+fa2-part_size n teams intp slots p =
+    let part : Class = Fa2 (p.0 ∷ p.1 ∷ []) intp slots in
+    ap (λ (rows : List Row). group_size (largest (λ row. row.degree) rows) rows)
+    (class_rows-keys n part ∙ append-nil (rows_of_subject n part (Pair p.0 p.1)))
+    ∙ group_size-shared n part (Pair p.0 p.1)
+    ∙ fa2-shared_size n teams intp slots p.0 p.1
+
+pub parts_size-fa2 : (n : ℕ) (class : Class) → name_of class ≡ name.Fa2
+    → parts_size n (parts_of n class) ≡ length (subjects_of class) * shared_size n class (Pair 0 1)
+parts_size-fa2 n (Fa2 teams intp slots) is =
+    let each : ℕ = shared_size n (Fa2 teams intp slots) (Pair 0 1) in
+    alike n each (λ p. Fa2 (p.0 ∷ p.1 ∷ []) intp slots) (fa2-part_size n teams intp slots) (pairs_of teams)
+    ∙ ap (λ (k : ℕ). k * each) (sym (length-map {B = Subject} (pairs_of teams) (λ p. Pair p.0 p.1)))
+parts_size-fa2 n (Ca1 teams min max side slots) is = absurd (cc)
+parts_size-fa2 n (Ca2 teams1 teams2 min max side slots) is = absurd (cc)
+parts_size-fa2 n (Ca3 teams1 teams2 min max intp side) is = absurd (cc)
+parts_size-fa2 n (Ca4 teams1 teams2 min max side span slots) is = absurd (cc)
+parts_size-fa2 n (Ga1 meetings min max slots) is = absurd (cc)
+parts_size-fa2 n (Br1 teams intp side slots) is = absurd (cc)
+parts_size-fa2 n (Br2 teams intp slots) is = absurd (cc)
+parts_size-fa2 n (Se1 teams min) is = absurd (cc)

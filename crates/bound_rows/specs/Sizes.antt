@@ -34,14 +34,18 @@ row_size units degree count = if nat_lt 0 degree then count + units else 0
 abbrev pub units_size : ℕ → ℕ
 units_size units = units + 2 * (units - 1)
 
--- a group of two rows of so many literals, with these degrees
-abbrev pub two_rows_size : ℕ → ℕ → ℕ → ℕ
-two_rows_size low beyond count =
-    row_size (max low beyond) low count + row_size (max low beyond) beyond count + units_size (max low beyond)
+-- the two rows that bound so many literals from low to high, in a group with so many units
+abbrev pub bounds_size : ℕ → ℕ → ℕ → ℕ → ℕ
+bounds_size units low high count = row_size units low count + row_size units (count - high) count
 
--- a group that bounds so many literals from low to high
+-- how many units they want: as many as the larger degree
+abbrev pub between_units : ℕ → ℕ → ℕ → ℕ
+between_units low high count = max low (count - high)
+
+-- a group of these two rows
 abbrev pub between_size : ℕ → ℕ → ℕ → ℕ
-between_size low high count = two_rows_size low (count - high) count
+between_size low high count =
+    bounds_size (between_units low high count) low high count + units_size (between_units low high count)
 
 -- the group of a key, those of a subject, and those of all subjects
 abbrev pub key_size : Bounded → ℕ
@@ -53,12 +57,18 @@ subject_size n class subject = sum_by (λ place. key_size (key_of n class subjec
 abbrev pub subjects_size : ℕ → Class → ℕ
 subjects_size n class = sum_by (subject_size n class) (subjects_of class)
 
--- the group of two teams of an FA2: at each slot two rows, each with two literals for each slot so far
-abbrev pub lead_units : ℕ → List ℕ → ℕ
-lead_units intp slots = largest (λ s. s + 1 - intp) slots
+-- the rows of a key in a group with so many units, and how many units they want
+abbrev pub key_rows_size : ℕ → Bounded → ℕ
+key_rows_size units key = bounds_size units key.low key.high (length key.literals)
 
-abbrev pub lead_size_at : ℕ → ℕ → ℕ → ℕ
-lead_size_at units intp s = row_size units (s + 1 - intp) (2 * (s + 1)) * 2
+abbrev pub key_units : Bounded → ℕ
+key_units key = between_units key.low key.high (length key.literals)
 
-abbrev pub lead_size : ℕ → List ℕ → ℕ
-lead_size intp slots = sum_by (lead_size_at (lead_units intp slots) intp) slots + units_size (lead_units intp slots)
+-- the one group of all keys of a subject, as of two teams of an FA2: it has as many units as any of the keys wants
+abbrev pub shared_units : ℕ → Class → Subject → ℕ
+shared_units n class subject = largest (λ place. key_units (key_of n class subject place)) (places_of n class)
+
+abbrev pub shared_size : ℕ → Class → Subject → ℕ
+shared_size n class subject =
+    sum_by (λ place. key_rows_size (shared_units n class subject) (key_of n class subject place)) (places_of n class)
+    + units_size (shared_units n class subject)

@@ -14,7 +14,7 @@ use Rattle.league.specs.declared.class.Side.{Side}
 use Rattle.league.specs.declared.class.Side.TheVariants.{Both}
 use Rattle.league.specs.declared.class.Span.TheVariants.{Global, Every}
 use Rattle.league.proofs.ListLemmas.{flat_map-same}
-use Rattle.rows.specs.Cardinality.{at_least, at_most, between}
+use Rattle.rows.specs.Cardinality.{at_least, at_most}
 use Rattle.rows.specs.Literals.{Literal, negate, no, yes}
 use Rattle.rows.specs.Rows.{Row}
 use Rattle.encoding_base.specs.Demands.{br1_rows, br2_rows, ca1_rows, ca2_rows, ca3_rows, ca4_rows, fa2_rows, fa2_rows_at}

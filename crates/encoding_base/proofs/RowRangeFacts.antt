@@ -1,5 +1,5 @@
 -- Where the rows of constraints begin in small leagues. Four teams have 152 rows of a phased season, and 120 of breaks.
-use Rattle.std.proofs.Common.{◌≡◌, ℕ, List, [], ◌∷◌, Bool, true, false, map, refl}
+use Rattle.std.proofs.Common.{◌≡◌, List, [], ◌∷◌, Bool, true, false, map, refl}
 use Rattle.std.specs.Prelude.{length}
 use Rattle.league.specs.Instance.{Instance}
 use Rattle.league.specs.declared.class.Class.{Class}
@@ -9,7 +9,7 @@ use Rattle.league.specs.declared.class.Side.TheVariants.{H, Both}
 use Rattle.league.proofs.DoubleFour.{all_slots, all_teams}
 use Rattle.rows.specs.Cardinality.{at_least}
 use Rattle.rows.specs.Literals.{yes, no}
-use Rattle.encoding_base.specs.RowRanges.{first_row, first_rows, rows_of_constraint}
+use Rattle.encoding_base.specs.RowRanges.{first_rows, rows_of_constraint}
 
 abbrev constraint : Bool → Class → Constraint
 constraint hard class = record { hard = hard; penalty = 1; class = class }

@@ -2,6 +2,7 @@
 ghost use Rattle.std.specs.Prelude.{◌≡◌, ◌+◌, ◌^◌, ◌<◌, ◌≤◌, IsTrue};
 ghost use Rattle.league.specs.Counts as counts;
 ghost use Rattle.league.specs.Instance.{IsTeamCount, are_slots, class_fits};
+ghost use Rattle.league.specs.Shapes.{has_opponents};
 ghost use Rattle.encoding_base.specs.Ascending.{AreSlots};
 ghost use Rattle.encoding_base.specs.Keys as keys;
 ghost use Rattle.encoding_base.specs.Keys.{IsListable, IsWithin, held, key_of};
@@ -188,6 +189,33 @@ fn team_key(n: u16, class: &Class, team: u16, place: u16) -> Key<'_>
             let side = *side;
             Key::new(*min, *max, Counted::Venues { team, side, slots })
         }
+        Class::Br1 {
+            intp,
+            side,
+            slots,
+            ..
+        } => {
+            let slots = slot_numbers(n, slots);
+            let side = *side;
+            Key::new(0, *intp, Counted::Breaks { team, side, slots })
+        }
+        _ => opposed_key(n, class, team, place),
+    }
+}
+
+/// The key of a class for a team and its opponents.
+fn opposed_key(n: u16, class: &Class, team: u16, place: u16) -> Key<'_>
+    requires n { IsTeamCount n }
+    requires opponents { IsTrue (has_opponents class.now) }
+    requires fits { IsTrue (class_fits n class.now) }
+    requires team { team < n }
+    requires place { place + width n class.now ≤ counts.slot_count n }
+    ensures key { held n result ≡ key_of n class.now (subject.Team team) place }
+    ensures listable { IsListable n result.counted }
+    ensures few { most_counted result.counted ≤ most_literals class.now }
+    ensures low { result.low < 2 ^ 32 }
+{
+    match class {
         Class::Ca2 {
             teams2,
             min,
@@ -219,16 +247,6 @@ fn team_key(n: u16, class: &Class, team: u16, place: u16) -> Key<'_>
                 slots: consecutive(place, *intp as u16),
             };
             Key::new(*min, *max, counted)
-        }
-        Class::Br1 {
-            intp,
-            side,
-            slots,
-            ..
-        } => {
-            let slots = slot_numbers(n, slots);
-            let side = *side;
-            Key::new(0, *intp, Counted::Breaks { team, side, slots })
         }
         _ => unreachable!(),
     }

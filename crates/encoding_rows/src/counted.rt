@@ -129,7 +129,7 @@ fn meetings_with(
     meetings_in_order(alloc, side, team, teams)
 }
 
-/// Those of all meetings that are some teams' with others on a side, in order.
+/// The meetings of some teams with others on a side, taken from all meetings in their order.
 fn meetings_between(
     alloc: Global,
     all: &[(u16, u16)],

@@ -1,5 +1,5 @@
 -- How many terms the rows of a class have, key by key.
-use Rattle.std.proofs.Common.{◌≡◌, ℕ, ◌+◌, ◌-◌, ◌*◌, ◌<◌, ◌≤◌, List, [], ◌∷◌, ◌++◌, length, map, take, refl, ap, sym, ◌∙◌, arith, get_or, suc, zero}
+use Rattle.std.proofs.Common.{◌≡◌, ℕ, ◌+◌, ◌-◌, ◌*◌, ◌<◌, ◌≤◌, List, [], ◌∷◌, ◌++◌, length, map, take, ap, sym, ◌∙◌, arith, get_or, suc, zero}
 use Rattle.std.proofs.lemmas.Bool.Decides.{nat_tests}
 use Rattle.std.proofs.lemmas.Grind.{flat_map-append}
 use Rattle.std.proofs.lemmas.List.{append-nil, length-append, take_more}
@@ -7,7 +7,7 @@ use Rattle.std.proofs.lemmas.List.Elements.{All-append, All-map, All-nil}
 use Rattle.std.proofs.lemmas.List.FromFn.{length-range_with_len}
 use Rattle.std.proofs.lemmas.List.Sums.{sum_by-append}
 use Rattle.std.proofs.lemmas.Nat.{mul-le}
-use Rattle.std.specs.List.{All, filter, flat_map, sum_by}
+use Rattle.std.specs.List.{All, flat_map, sum_by}
 use Rattle.std.specs.Ordering.{nat_cmp}
 use Rattle.league.specs.Capacity.{meetings_with}
 use Rattle.league.specs.Meetings.{others, pairs_of}
@@ -18,7 +18,6 @@ use Rattle.league.specs.declared.class.Side.{Side}
 use Rattle.league.specs.declared.class.Side.TheVariants.{Both}
 use Rattle.league.proofs.SetLemmas.{less_than}
 use Rattle.league.proofs.SumLemmas.{sum_by-flat_map, sum_by-map, sum_by-same}
-use Rattle.rows.specs.Literals.{Literal}
 use Rattle.rows.specs.Rows.{Row, size_of}
 use Rattle.encoding_base.specs.Encoding.{class_rows}
 use Rattle.encoding_base.specs.Keys.{Bounded, key_of, most_literals, rows_of_key, rows_of_subject}
@@ -105,7 +104,7 @@ fa2-slot n teams intp slots i j s =
       both : (intp s : ℕ) → between_terms (s + 1 - intp) (s + 1 + intp) (2 * (s + 1)) ≡ fa2_terms intp s
       both intp s = grind (arith, nat_tests)
 
-fa2-pair : (n : ℕ) (teams : List ℕ) (intp : ℕ) (slots : List ℕ) (p : ℕ × ℕ)
+pub fa2-pair : (n : ℕ) (teams : List ℕ) (intp : ℕ) (slots : List ℕ) (p : ℕ × ℕ)
     → size_of (rows_of_subject n (Fa2 teams intp slots) (Pair p.0 p.1)) ≡ sum_by (fa2_terms intp) slots
 fa2-pair n teams intp slots p =
     let rows : ℕ → List Row = λ s. rows_of_key (key_of n (Fa2 teams intp slots) (Pair p.0 p.1) s) in

@@ -3,4 +3,5 @@ pub mod SizeFacts
 -- How many terms the rows of a class and of a season have:
 pub mod SizeLemmas
 pub mod ClassSizeLemmas
+pub mod AlikeKeys
 pub mod SeasonSizes

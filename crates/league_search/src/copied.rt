@@ -4,7 +4,7 @@ ghost use Rattle.std.specs.Prelude.{◌≡◌, IfOk};
 use rows::RowStore;
 use std::alloc::{AllocError, Global};
 
-/// The same rows, with room for a few more.
+/// A store of the same rows, which has room for a few more.
 ///
 /// # Errors
 /// Only where memory runs out.

@@ -5,7 +5,7 @@ ghost use Rattle.std.specs.List.{All};
 use rows::{Term, WideTerm};
 use std::alloc::{AllocError, Global};
 
-/// The same terms, if each coefficient fits 32 bits and no variable is above `vars`.
+/// The wide terms as terms, if each coefficient fits 32 bits and no variable is above `vars`.
 ///
 /// # Errors
 /// Only where memory runs out.

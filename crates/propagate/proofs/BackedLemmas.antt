@@ -109,7 +109,6 @@ IsWatching-entries path watches loose looked es watching within grown lawful =
       room = watching.room;
       hung = watching.hung;
       nodes = record {
-        few_rows = watching.nodes.few_rows;
         even = watching.nodes.even;
         from = watching.nodes.from;
         to = watching.nodes.to;

@@ -8,7 +8,6 @@ use Rattle.std.proofs.lemmas.Bool.Decides.{nat_tests}
 use Rattle.std.proofs.lemmas.List.{get_or_append_left, get_or_read, get_or_push, get_or-set_other, get_or-set_same, length-set, length_push}
 use mathlib.Core.Path.{fun_ext}
 use Rattle.rows.specs.Cardinality.{at_least}
-use Rattle.rows.specs.Codes.{code_of}
 use Rattle.rows.specs.Forcing.{set_true}
 use Rattle.rows.specs.Literals.{Literal, negate}
 use Rattle.rows.specs.Rows.{IsRow, Row}

@@ -1,10 +1,9 @@
 -- A row has no more terms than there are variables.
 use Rattle.std.proofs.Common.{◌≡◌, ◌≢◌, ℕ, zero, suc, ◌+◌, ◌<◌, ◌≤◌, ◌⊎◌, List, [], ◌∷◌, length, get_or}
-use Rattle.std.proofs.Common.{inl, inr, arith, ap, sym, subst, ◌∙◌}
-use Rattle.std.specs.List.{All, AllPairs, remove}
+use Rattle.std.proofs.Common.{inl, inr, arith, sym, subst, ◌∙◌}
+use Rattle.std.specs.List.{All, remove}
 use Rattle.std.proofs.lemmas.Bool.{cases_eq, cases_lt}
 use Rattle.std.proofs.lemmas.List.Edits.{get_or-remove_above, get_or-remove_below, length-remove}
-use Rattle.std.proofs.lemmas.List.{get_or_default}
 use Rattle.std.proofs.lemmas.List.Quantifiers.{all_pairs_remove}
 use Rattle.rows.specs.declared.lit.Term.{Term}
 use Rattle.propagate.proofs.ValueLemmas.{AreApart, apart_at}

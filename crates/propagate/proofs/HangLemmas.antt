@@ -44,15 +44,11 @@ pub IsWatching-pair : (path : SeenPath) (before after : Watches) (looked : ℕ) 
 IsWatching-pair path before after looked pair sound within watching below is_pair hung pushed slots more capacity =
     record {
       slots = omega (arith, slots, watching.slots);
-      room = record {
-        room = omega (arith, watching.room.room, capacity, more, longer, below);
-        few = omega (arith, watching.room.few, more, longer, below);
-      };
+      room = omega (arith, watching.room, capacity, more, longer, below);
       hung = hung;
       nodes =
           subst (λ (xs : List Node). AreNodes path xs after.hung) (sym pushed.nodes)
           (subst (λ (k : ℕ). AreNodes path both k) (sym more) (record {
-            few_rows = watching.nodes.few_rows;
             even = omega (arith, watching.nodes.even, length_both);
             from = omega (arith, watching.nodes.from);
             to = omega (arith, below);
@@ -223,13 +219,9 @@ pub IsWatching-held : (path : SeenPath) (before after : Watches) (looked place :
 IsWatching-held path before after looked place watching at below held is =
     subst (λ (w : Watches). IsWatching path w looked) (sym is) (record {
       slots = watching.slots;
-      room = record {
-        room = omega (arith, watching.room.room, at);
-        few = omega (arith, watching.room.few, at);
-      };
+      room = omega (arith, watching.room, at);
       hung = watching.hung;
       nodes = record {
-        few_rows = watching.nodes.few_rows;
         even = watching.nodes.even;
         from = omega (arith, watching.nodes.from, at);
         to = omega (arith, below, at);

@@ -5,7 +5,7 @@ use Rattle.std.specs.Prelude.{slice_get}
 use Rattle.std.proofs.lemmas.Bool.{cases_lt}
 use Rattle.std.proofs.lemmas.List.{get_or_default, get_or-take, take_all, take_more}
 use Rattle.std.proofs.lemmas.List.Elements.{All-from_get_or}
-use Rattle.std.proofs.lemmas.Option.{IfSome_then, get_or_from_slice_get, none-some, slice_get-get_or}
+use Rattle.std.proofs.lemmas.Option.{IfSome_then, none-some, slice_get-get_or}
 use Rattle.rows.specs.Forcing.{set_true}
 use Rattle.rows.specs.Literals.{Literal, negate}
 use Rattle.rows.specs.Rows.{Row}

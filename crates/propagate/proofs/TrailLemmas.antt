@@ -1,5 +1,5 @@
 -- What the calls of a trail do to how far it was looked at and to its watches.
-use Rattle.std.proofs.Common.{◌≡◌, ◌≢◌, ℕ, ◌+◌, ◌*◌, ◌%◌, ◌-◌, ◌<◌, ◌≤◌, ◌^◌, true, false, List, [], ◌∷◌, ◌++◌, length}
+use Rattle.std.proofs.Common.{◌≡◌, ◌≢◌, ℕ, ◌+◌, ◌*◌, ◌%◌, ◌-◌, ◌<◌, ◌≤◌, true, false, List, [], ◌∷◌, ◌++◌, length}
 use Rattle.std.proofs.Common.{get_or, take, replicate}
 use Rattle.std.proofs.Common.{Option, Some, None, refl, inl, inr, arith, ap, sym, subst, ◌∙◌}
 use Rattle.std.specs.Prelude.{Contains, IfSome, is_none}
@@ -42,10 +42,9 @@ use Rattle.propagate.proofs.LookLemmas.{AreLawful-more, IsReady-grown, news, qui
 
 pub IsTrail-none : (path : SeenPath) (watches : Watches) → All IsRow path.rows
     → All (KnowsVariables path.vars) path.rows → path.entries ≡ [] → path.given ≡ length path.rows
-    → length path.rows < 2 ^ 32
     → watches.firsts.items ≡ replicate (2 * path.vars + 2) 0 → watches.nodes.items ≡ [] → watches.hung ≡ path.given
     → IsTrail path watches (record { entries = 0; rows = 0 })
-IsTrail-none path watches proper known none given few firsts nodes hung = record {
+IsTrail-none path watches proper known none given firsts nodes hung = record {
   ready = record {
     sound = record {
       proper = proper;
@@ -60,16 +59,12 @@ IsTrail-none path watches proper known none given few firsts nodes hung = record
   };
   watching = record {
     slots = ap (λ (ns : List ℕ). length ns) firsts ∙ length-replicate (2 * path.vars + 2) 0;
-    room = record {
-      room = omega (arith, no_nodes, hung, given);
-      few = omega (arith, no_nodes, hung, given);
-    };
+    room = omega (arith, no_nodes, hung, given);
     hung =
         subst (λ (ns : List ℕ). AreHung ns watches.nodes.items []) (sym firsts)
         (subst (λ (xs : List Node). AreHung (replicate (2 * path.vars + 2) 0) xs []) (sym nodes)
         (AreHung-none (2 * path.vars + 2)));
     nodes = record {
-      few_rows = few;
       even = subst (λ (n : ℕ). n % 2 ≡ 0) (sym no_nodes) refl;
       from = omega (arith, hung);
       to = omega (arith, hung, given);
@@ -254,7 +249,6 @@ IsTrail-decide old new watches looked lit trail all from_one known free quiet gr
           room = trail.watching.room;
           hung = trail.watching.hung;
           nodes = record {
-            few_rows = trail.watching.nodes.few_rows;
             even = trail.watching.nodes.even;
             from = trail.watching.nodes.from;
             to = trail.watching.nodes.to;
@@ -345,7 +339,6 @@ IsTrail-back old new watches looked after level trail same back less is =
         room = trail.watching.room;
         hung = trail.watching.hung;
         nodes = record {
-          few_rows = trail.watching.nodes.few_rows;
           even = trail.watching.nodes.even;
           from = trail.watching.nodes.from;
           to = trail.watching.nodes.to;
@@ -381,10 +374,7 @@ pub IsWatching-same : (path : SeenPath) (before after : Watches) (looked : ℕ) 
     → IsWatching path before looked → IsWatching path after looked
 IsWatching-same path before after looked same watching = record {
   slots = ap (λ (ns : List ℕ). length ns) same.firsts ∙ watching.slots;
-  room = record {
-    room = omega (arith, watching.room.room, same.hung, same.room, ap (λ (xs : List Node). length xs) same.nodes);
-    few = omega (arith, watching.room.few, same.hung, ap (λ (xs : List Node). length xs) same.nodes);
-  };
+  room = omega (arith, watching.room, same.hung, same.room, ap (λ (xs : List Node). length xs) same.nodes);
   hung =
       subst (λ (ns : List ℕ). AreHung ns after.nodes.items []) (sym same.firsts)
       (subst (λ (xs : List Node). AreHung before.firsts.items xs []) (sym same.nodes) watching.hung);
@@ -406,10 +396,10 @@ with_rows path rows = record path { rows = rows }
 -- a clause stands behind the rows
 pub IsTrail-add : (old new : SeenPath) (before after : Watches) (looked : Looked) (clause : List Literal)
     → IsTrail old before looked → IsSameWatches before after
-    → HasRoomForNodes after (length old.rows + 1) → length old.rows + 1 < 2 ^ 32
+    → HasRoomForNodes after (length old.rows + 1)
     → new ≡ record old { rows = new.rows } → new.rows ≡ old.rows ++ at_least 1 clause ∷ []
     → All (λ l. l.var ≤ old.vars) clause → AllPairs (λ l m. l.var ≢ m.var) clause → IsTrail new after looked
-IsTrail-add old new before after looked clause trail same room few path_same rows_are known differ =
+IsTrail-add old new before after looked clause trail same room path_same rows_are known differ =
     subst (λ (p : SeenPath). IsTrail p after looked) (sym path_same)
     (subst (λ (rs : List Row). IsTrail (with_rows old rs) after looked) (sym rows_are) next) where
       rows : List Row
@@ -474,7 +464,6 @@ IsTrail-add old new before after looked clause trail same room few path_same row
           room = subst (λ (n : ℕ). HasRoomForNodes after n) (sym longer) room;
           hung = kept.hung;
           nodes = record {
-            few_rows = omega (arith, longer);
             even = kept.nodes.even;
             from = kept.nodes.from;
             to = omega (arith, kept.nodes.to, longer);

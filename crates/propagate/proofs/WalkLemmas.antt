@@ -113,10 +113,7 @@ Walking old now watches hung looked l at left stopped =
 pub room_kept : (rows : ℕ) (before after : Watches) → vec_capacity before.nodes ≤ vec_capacity after.nodes
     → after.hung ≡ before.hung → length after.nodes.items ≡ length before.nodes.items
     → HasRoomForNodes before rows → HasRoomForNodes after rows
-room_kept rows before after more hung same room = record {
-  room = omega (arith, room.room, hung, same, more);
-  few = omega (arith, room.few, hung, same);
-}
+room_kept rows before after more hung same room = omega (arith, room, hung, same, more)
 
 -- the list was taken off
 pub walking-none : (path : SeenPath) (before after : Watches) (looked slot at left : ℕ) (l : Literal) → AreSound path
@@ -227,7 +224,6 @@ IsWatching-hang path before after i looked rest lit sound within watching fresh 
       nodes =
           subst (λ (xs : List Node). AreNodes path xs after.hung) (sym items)
           (subst (λ (n : ℕ). AreNodes path (slice_set nodes i x) n) (sym hung) (record {
-            few_rows = watching.nodes.few_rows;
             even = subst (λ (n : ℕ). n % 2 ≡ 0) (sym (length-set nodes i x)) watching.nodes.even;
             from = watching.nodes.from;
             to = watching.nodes.to;

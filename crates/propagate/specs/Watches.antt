@@ -1,5 +1,5 @@
 -- Clauses that are watched at two of their literals.
-use Rattle.std.specs.Prelude.{◌≡◌, ◌≢◌, ℕ, ◌+◌, ◌-◌, ◌*◌, ◌%◌, ◌^◌, ◌==◌, ◌<◌, ◌≤◌, ◌⊎◌, true, false, if◌then◌else◌}
+use Rattle.std.specs.Prelude.{◌≡◌, ◌≢◌, ℕ, ◌+◌, ◌-◌, ◌*◌, ◌%◌, ◌==◌, ◌<◌, ◌≤◌, ◌⊎◌, true, false, if◌then◌else◌}
 use Rattle.std.specs.Prelude.{List, [], ◌∷◌, ◌++◌, length, take}
 use Rattle.std.specs.Prelude.{slice_index_or, Contains}
 use Rattle.std.specs.List.{All}
@@ -119,7 +119,6 @@ IsBacked before now nodes i =
 
 -- the nodes stand for clauses, and each clause below a bound has nodes or needs none
 pub record AreNodes (path : SeenPath) (nodes : List Node) (hung : ℕ) : Type 0 where
-  pub few_rows : length path.rows < 2 ^ 32
   pub even : length nodes % 2 ≡ 0
   pub from : path.given ≤ hung
   pub to : hung ≤ length path.rows
@@ -132,10 +131,9 @@ pub record AreBacked (nodes : List Node) (entries : List Entry) (looked : ℕ) :
   pub below : (i : ℕ) → i < length nodes
       → EachEntry (λ before e. is_decision e ≡ true → IsBacked (values_of before) (values_of before) nodes i) entries
 
--- room for the nodes of the rows from the bound on, below 2^32 in all
-pub record HasRoomForNodes (watches : Watches) (rows : ℕ) : Type 0 where
-  pub room : length watches.nodes.items + 2 * (rows - watches.hung) ≤ vec_capacity watches.nodes
-  pub few : length watches.nodes.items + 2 * (rows - watches.hung) + 1 < 2 ^ 32
+-- room for the nodes of the rows from the bound on
+abbrev pub HasRoomForNodes : Watches → ℕ → Type 0
+HasRoomForNodes watches rows = length watches.nodes.items + 2 * (rows - watches.hung) ≤ vec_capacity watches.nodes
 
 -- the clauses of a path are watched, where so many entries were looked at, but those nodes are in no list
 pub record IsWatchingBut (path : SeenPath) (watches : Watches) (loose : List ℕ) (looked : ℕ) : Type 0 where

@@ -28,11 +28,12 @@ pub(crate) fn hang_next(path: &Path, watches: &mut Watches, looked: Looked)
     requires within { looked.rows < length path.now.rows }
     ensures { IsWatching path.now watches.new looked.entries }
 {
+    let _count = path.row_count();
     if looked.rows != watches.hung {
         return;
     }
     match pair_of(path, looked.rows) {
-        Some(pair) => watches.push_pair(pair, looked.rows as u32),
+        Some(pair) => watches.push_pair(pair, looked.rows),
         None => hold(path, watches, looked.rows),
     }
 }

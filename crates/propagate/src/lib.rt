@@ -7,6 +7,7 @@
 
 mod calm;
 mod clause;
+mod clauses;
 mod counters;
 mod entry;
 mod force;

@@ -12,6 +12,7 @@ ghost use Rattle.propagate.specs.declared.link.Link.{Link as ALink};
 ghost use Rattle.propagate.specs.Numbered.{row_at};
 ghost use Rattle.propagate.specs.Trails.{IsBackTo, KnowsVariables, level_of, values_of};
 
+use crate::clauses::Clauses;
 use crate::counters::Counters;
 use crate::entry::Entry;
 use crate::link::Link;
@@ -26,7 +27,7 @@ pub(crate) struct Path<'a> {
     /// The rows that were given.
     counters: Counters<'a>,
     /// The added clauses.
-    added: RowStore,
+    added: Clauses,
     entries: Vec<Entry>,
     /// For each variable that has a value the place of its entry.
     places: Vec<usize>,
@@ -61,16 +62,16 @@ impl<'a> Path<'a> {
     {
         Ok(Path {
             counters: Counters::new(alloc, given, vars)?,
-            added: RowStore::new(alloc),
+            added: Clauses::new(alloc),
             entries: Vec::with_capacity(alloc, vars as usize)?,
             places: vec![in alloc; 0; vars as usize]?,
         })
     }
 
-    /// The number of rows and clauses, below 2^33.
+    /// The number of rows and clauses.
     pub(crate) fn row_count(&self) -> usize
         ensures len { result ≡ length self.now.rows }
-        ensures few { result < 2 ^ 33 }
+        ensures few { result + 1 < 2 ^ 64 }
     {
         self.counters.len() + self.added.len()
     }
@@ -281,16 +282,12 @@ impl<'a> Path<'a> {
     /// Adds a clause behind the rows.
     ///
     /// # Errors
-    /// Only where memory runs out, or there are 2^32 - 1 clauses: then nothing changes.
+    /// Only where memory runs out: then nothing changes.
     pub(crate) fn add(&mut self, clause: &[Lit]) -> Result<(), AllocError>
-        requires { AllPairs (λ l m. l.var ≢ m.var) clause.now }
         ensures rows { OnOk result (self.new.rows ≡ self.old.rows ++ at_least 1 clause.now ∷ []) }
         ensures same { self.new ≡ record self.old { rows = self.new.rows } }
         ensures err { OnErr result (self.new ≡ self.old) }
     {
-        if self.added.len() == 0xFFFF_FFFF {
-            return Err(AllocError);
-        }
-        self.added.push_at_least(clause, 1)
+        self.added.add(clause)
     }
 }

@@ -114,7 +114,7 @@ impl<'a> Trail<'a> {
     /// Adds a clause behind the rows, and gives its number. No literal is made true.
     ///
     /// # Errors
-    /// Only where memory runs out, or there would be 2^32 rows, or 2^32 watched literals: then nothing changes.
+    /// Only where memory runs out: then nothing changes.
     pub fn add(&mut self, clause: &[Lit]) -> Result<u64, AllocError>
         requires known { All (λ l. l.var ≤ self.old.vars) clause.now }
         requires variables { AllPairs (λ l m. l.var ≢ m.var) clause.now }
@@ -127,9 +127,6 @@ impl<'a> Trail<'a> {
             → IsQuietRowBelow (at_least 1 clause.now) self.old.entries → IsQuietBelow self.new.rows self.new.entries) }
     {
         let count = self.path.row_count();
-        if count >= 0xFFFF_FFFF {
-            return Err(AllocError);
-        }
         self.watches.reserve(count)?;
         self.path.add(clause)?;
         Ok(count as u64 + 1)

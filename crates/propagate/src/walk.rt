@@ -41,7 +41,7 @@ pub(crate) fn walk(
     let mut stopped = None;
     let mut at = watches.take_off(slot(falsified));
     'nodes: while at > 0 {
-        let place = at as usize - 1;
+        let place = at - 1;
         at = watches.nodes[place].next;
         let next = next_watch(path, watches, place, stopped);
         watches.hang(place, next.lit);
@@ -55,7 +55,6 @@ pub(crate) fn walk(
 fn next_watch(path: &mut Path, watches: &Watches, place: usize, stopped: Option<Conflict>) -> Next
     requires sound { AreSound path.old }
     requires there { place < length watches.now.nodes.items }
-    requires few { length watches.now.nodes.items < 2 ^ 32 }
     requires node { IsNode path.old.rows path.old.given watches.now.hung watches.now.nodes.items place }
     requires other { IsNode path.old.rows path.old.given watches.now.hung watches.now.nodes.items (partner_of place) }
     requires hung { watches.now.hung ≤ length path.old.rows }
@@ -79,7 +78,6 @@ fn next_watch(path: &mut Path, watches: &Watches, place: usize, stopped: Option<
 fn look_at_node(path: &mut Path, watches: &Watches, place: usize) -> Next
     requires sound { AreSound path.old }
     requires there { place < length watches.now.nodes.items }
-    requires few { length watches.now.nodes.items < 2 ^ 32 }
     requires node { IsNode path.old.rows path.old.given watches.now.hung watches.now.nodes.items place }
     requires other { IsNode path.old.rows path.old.given watches.now.hung watches.now.nodes.items (partner_of place) }
     requires hung { watches.now.hung ≤ length path.old.rows }
@@ -96,13 +94,13 @@ fn look_at_node(path: &mut Path, watches: &Watches, place: usize) -> Next
             stopped: None,
         };
     }
-    if let Some(found) = next_open(path, node.row as usize, other.var()) {
+    if let Some(found) = next_open(path, node.row, other.var()) {
         return Next {
             lit: found,
             stopped: None,
         };
     }
-    if settle_last(path, node.row as usize, other) {
+    if settle_last(path, node.row, other) {
         return Next {
             lit: node.lit,
             stopped: None,
@@ -111,7 +109,7 @@ fn look_at_node(path: &mut Path, watches: &Watches, place: usize) -> Next
     Next {
         lit: node.lit,
         stopped: Some(Conflict {
-            row: u64::from(node.row) + 1,
+            row: node.row as u64 + 1,
         }),
     }
 }

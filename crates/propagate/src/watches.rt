@@ -11,24 +11,21 @@ use crate::link::slot;
 use rows::Lit;
 use std::alloc::{AllocError, Global};
 
-/// More nodes than there may be.
-const MANY: usize = 0xFFFF_FFFF;
-
 /// A watched literal of a clause. The clause's other one stands beside it: an even place and the next.
 #[derive(Clone, Copy, Debug)]
 pub(crate) struct Node {
     pub(crate) lit: Lit,
     /// The clause's place among the rows, from 0.
-    pub(crate) row: u32,
+    pub(crate) row: usize,
     /// One above the place of the next node with the same literal, or 0 where there is none.
-    pub(crate) next: u32,
+    pub(crate) next: usize,
 }
 
 /// For each literal the clauses that are watched at it.
 #[derive(Drop)]
 pub(crate) struct Watches {
     /// For each literal one above the place of its first node, or 0.
-    pub(crate) firsts: Vec<u32>,
+    pub(crate) firsts: Vec<usize>,
     pub(crate) nodes: Vec<Node>,
     /// How many rows, from the first one on, need no look of their own: they were given, or they are watched, or a
     /// literal of them is true for good.
@@ -55,23 +52,20 @@ impl Watches {
     /// Makes room for the nodes of the clauses that have none, where there is to be one more than among so many rows.
     ///
     /// # Errors
-    /// Only where memory runs out, or there would be 2^32 nodes.
+    /// Only where memory runs out.
     pub(crate) fn reserve(&mut self, rows: usize) -> Result<(), AllocError>
         requires hung { self.old.hung ≤ rows }
-        requires few { rows < 2 ^ 33 }
+        requires few { rows + 1 < 2 ^ 64 }
         ensures same { IsSameWatches self.old self.new }
         ensures room { OnOk result (HasRoomForNodes self.new (rows + 1)) }
     {
-        let more = 2 * (rows + 1 - self.hung);
-        if more >= MANY || self.nodes.len() >= MANY - more {
-            return Err(AllocError);
-        }
-        self.nodes.reserve(more)?;
+        let clauses = rows + 1 - self.hung;
+        self.nodes.reserve(clauses.saturating_mul(2))?;
         Ok(())
     }
 
     /// Takes the list of a literal off. The answer is what led to its first node.
-    pub(crate) fn take_off(&mut self, at: usize) -> u32
+    pub(crate) fn take_off(&mut self, at: usize) -> usize
         requires { at < length self.old.firsts.items }
         ensures first { result ≡ slice_index_or self.old.firsts.items at 0 }
         ensures firsts { self.new.firsts.items ≡ slice_set self.old.firsts.items at 0 }
@@ -87,7 +81,6 @@ impl Watches {
     /// Hangs a node, which is in no list, into that of a literal, which it watches from now on.
     pub(crate) fn hang(&mut self, place: usize, lit: Lit)
         requires there { place < length self.old.nodes.items }
-        requires few { place + 1 < 2 ^ 32 }
         requires slot { code_of lit < length self.old.firsts.items }
         ensures nodes { self.new.nodes.items ≡ slice_set self.old.nodes.items place (record {
           lit = lit;
@@ -105,13 +98,13 @@ impl Watches {
             row,
             next: self.firsts[at],
         };
-        self.firsts[at] = place as u32 + 1;
+        self.firsts[at] = place + 1;
     }
 
     /// Adds the nodes of the next clause, which watch these literals, and hangs them into the lists.
-    pub(crate) fn push_pair(&mut self, pair: Pair, row: u32)
+    pub(crate) fn push_pair(&mut self, pair: Pair, row: usize)
         requires room { length self.old.nodes.items + 2 ≤ vec_capacity self.old.nodes }
-        requires few { length self.old.nodes.items + 2 < 2 ^ 32 }
+        requires few { row + 1 < 2 ^ 64 }
         requires next { self.old.hung ≡ row }
         requires first { code_of pair.first < length self.old.firsts.items }
         requires second { code_of pair.second < length self.old.firsts.items }
@@ -124,13 +117,12 @@ impl Watches {
     {
         self.push(pair.first, row);
         self.push(pair.second, row);
-        self.hung = row as usize + 1;
+        self.hung = row + 1;
     }
 
     /// Adds a node and hangs it into the list of its literal.
-    fn push(&mut self, lit: Lit, row: u32)
+    fn push(&mut self, lit: Lit, row: usize)
         requires room { length self.old.nodes.items < vec_capacity self.old.nodes }
-        requires few { length self.old.nodes.items + 1 < 2 ^ 32 }
         requires slot { code_of lit < length self.old.firsts.items }
         ensures nodes { self.new.nodes.items ≡ self.old.nodes.items ++ record {
           lit = lit;
@@ -150,13 +142,12 @@ impl Watches {
             next: self.firsts[at],
         });
         pushed.unwrap();
-        self.firsts[at] = place as u32 + 1;
+        self.firsts[at] = place + 1;
     }
 }
 
 /// The place of the other node of a node's clause.
 pub(crate) fn partner(place: usize) -> usize
-    requires { place < 2 ^ 32 }
     ensures { result ≡ partner_of place }
 {
     if place % 2 == 0 { place + 1 } else { place - 1 }

@@ -6,8 +6,8 @@ use Rattle.league.specs.Counts.{slot_count}
 use Rattle.league.specs.declared.class.Class.{Class}
 use Rattle.league.specs.declared.class.Side.TheVariants.{Both}
 use Rattle.rows.specs.Literals.{Literal}
-use Rattle.encoding_base.specs.Keys.{IsListable, key_of, most_counted, most_literals, separation, width}
-use Rattle.encoding_base.specs.Lists.{at_home_in, away_in, games_in, meetings_in_order, slots_up_to}
+use Rattle.encoding_base.specs.Keys.{IsListable, key_of, most_counted, most_literals, width}
+use Rattle.encoding_base.specs.Lists.{at_home_in, away_in, games_in, meetings_in_order}
 use Rattle.encoding_base.specs.declared.keys.Counted.{Counted}
 use Rattle.encoding_base.specs.declared.subjects.Subject.TheVariants.{Pair}
 use Rattle.encoding_base.proofs.HeldKeys.{bounded, in_order-one, one_team, same_key}

@@ -1,4 +1,4 @@
-use Rattle.std.proofs.Common.{ℕ, length, ap, sym, ◌∙◌}
+use Rattle.std.proofs.Common.{length, ap, sym, ◌∙◌}
 use Rattle.league.specs.declared.class.Side.{Side}
 use Rattle.encoding_base.specs.Lists.{venues_in}
 use Rattle.encoding_sizes.proofs.SizeLemmas.{length-at_home, length-away}

@@ -1,5 +1,5 @@
-use Rattle.std.proofs.Common.{ℕ, ◌<◌, ◌+◌, ◌-◌, ◌∙◌, List, length, refl, arith, ap, sym, subst}
-use Rattle.propagate.specs.Links.{IsLastBelow, IsListed, links_of}
+use Rattle.std.proofs.Common.{ℕ, ◌<◌, ◌+◌, ◌-◌, List, length, refl, arith, ap, subst}
+use Rattle.propagate.specs.Links.{IsLastBelow, IsListed}
 use Rattle.propagate.specs.Looks.{IsReady}
 use Rattle.propagate.specs.Paths.{SeenPath}
 use Rattle.propagate.specs.Trails.{values_of}

@@ -7,7 +7,6 @@ use Rattle.propagate.specs.Numbered.{row_at}
 use Rattle.propagate.specs.Paths.{SeenPath}
 use Rattle.propagate.specs.Trails.{values_of}
 use Rattle.propagate.specs.Watches.{AllFalseBut, IsOpenIn, node_at, partner_of}
-use Rattle.propagate.specs.declared.entry.Conflict.{Conflict}
 use Rattle.propagate.specs.declared.watches.Node.{Node}
 use Rattle.propagate.proofs.ChainLemmas.{no_node}
 use Rattle.propagate.proofs.LookLemmas.{IsGrownOver-none, NamesConflict-at}
@@ -94,7 +93,6 @@ returns c =
       looked = λ none. absurd (none-some _ (sym none));
       conflict =
           NamesConflict-at c.settle_last.new.path.rows (values_of c.settle_last.new.path.entries)
-          c.index-node.result.now.row (record { row = c.from.result + 1 }) there
-          (ap (λ (n : ℕ). let x : Conflict = record { row = n + 1 } in x) c.from.ensures)
+          c.index-node.result.now.row (record { row = c.index-node.result.now.row + 1 }) there refl
           (c.if-settle_last.ensures.conflict refl);
     }

@@ -123,17 +123,11 @@ returns-clause-visited c = λ none.
 pub slot-requires : goal.slot-requires
 slot-requires c = tt
 
-pub next_watch-next-requires-clause-few : goal.next_watch-next-requires-clause-few
-next_watch-next-requires-clause-few c = omega (arith, c.nodes.invariant.1.watching.room.few)
-
 pub next_watch-next-requires-clause-hung : goal.next_watch-next-requires-clause-hung
 next_watch-next-requires-clause-hung c = c.nodes.invariant.1.watching.nodes.to
 
 pub next_watch-next-requires-clause-stopped : goal.next_watch-next-requires-clause-stopped
 next_watch-next-requires-clause-stopped c = c.nodes.invariant.1.conflict
-
-pub hang-requires-clause-few : goal.hang-requires-clause-few
-hang-requires-clause-few c = omega (arith, c.nodes.auto.at-fits)
 
 pub returns-clause-grown : goal.returns-clause-grown
 returns-clause-grown c = c.nodes.invariant.1.grown

@@ -1,4 +1,4 @@
-use Rattle.std.proofs.Common.{ℕ, ◌≤◌, List, length, ap, arith, subst, sym, ◌∙◌}
+use Rattle.std.proofs.Common.{List, length, ap, arith, subst, sym, ◌∙◌}
 use Rattle.propagate.specs.Counters.{SeenCounters}
 use Rattle.propagate.specs.Links.{IsListed, links_of}
 use Rattle.propagate.specs.declared.link.Link.{Link}

@@ -29,7 +29,7 @@ invariant_of-self-2 c =
     c.args.clause.now c.self.invariant c.reserve.ensures.same
     (subst (λ (n : ℕ). HasRoomForNodes c.reserve.new.self (n + 1)) c.row_count-count.ensures.len
     c.in_ok-reserve.ensures.room)
-    (omega (arith, c.row_count-count.ensures.len)) c.in_ok-add.ensures.same c.in_ok-add.ensures.rows
+    c.in_ok-add.ensures.same c.in_ok-add.ensures.rows
     (subst (λ (t : SeenTrail). All (λ l. l.var ≤ t.vars) c.args.clause.now) (sym c.self.view_is) c.requires.known)
     c.requires.variables
 

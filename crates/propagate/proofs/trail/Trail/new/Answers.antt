@@ -1,4 +1,4 @@
-use Rattle.std.proofs.Common.{◌≡◌, ◌+◌, ◌*◌, ℕ, List, length, replicate, arith, ap, sym, subst, ◌∙◌}
+use Rattle.std.proofs.Common.{◌≡◌, ◌+◌, ◌*◌, ℕ, List, length, replicate, ap, sym, subst, ◌∙◌}
 use Rattle.std.specs.List.{All}
 use Rattle.rows.specs.Rows.{IsRow, Row}
 use Rattle.propagate.specs.Trails.{KnowsVariables}
@@ -14,13 +14,6 @@ invariant_of-result c =
     (subst (λ (n : ℕ). All (KnowsVariables n) c.in_ok-path.path.rows) (sym c.in_ok-path.ensures.vars)
     (subst (λ (rs : List Row). All (KnowsVariables c.args.vars) rs) (sym c.in_ok-path.ensures.rows) c.requires))
     c.in_ok-path.ensures.entries given
-    (omega (
-      arith,
-      c.len.ensures.few,
-      c.len.ensures.len,
-      ap (λ (rs : List Row). length rs)
-          c.in_ok-path.ensures.rows,
-    ))
     (c.in_ok-watches.ensures.firsts ∙ ap (λ (n : ℕ). replicate (2 * n + 2) 0) (sym c.in_ok-path.ensures.vars))
     c.in_ok-watches.ensures.nodes
     (c.in_ok-watches.ensures.hung ∙ c.len.ensures.len ∙ sym c.in_ok-path.ensures.given)

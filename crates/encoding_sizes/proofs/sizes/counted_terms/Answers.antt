@@ -1,4 +1,4 @@
-use Rattle.std.proofs.Common.{◌≤◌, ◌<◌, ℕ, ◌+◌, ◌*◌, List, length, take, ap, sym, ◌∙◌, arith}
+use Rattle.std.proofs.Common.{◌≤◌, ◌<◌, ◌+◌, List, length, ap, sym, ◌∙◌, arith}
 use Rattle.std.proofs.lemmas.List.{take_all}
 use Rattle.std.specs.List.{flat_map}
 use Rattle.rows.specs.Rows.{size_of}
@@ -6,7 +6,7 @@ use Rattle.encoding_base.specs.Keys.{most_literals, rows_of_subject, subjects_of
 use Rattle.encoding_base.specs.declared.subjects.Subject.{Subject}
 use Rattle.encoding_base.proofs.KeyLaws.{class_rows-keys}
 use Rattle.encoding_sizes.proofs.ClassSizeLemmas.{most_in_all, most_more, sized}
-use Rattle.encoding_sizes.proofs.sizes.class_terms.Goals as goal
+use Rattle.encoding_sizes.proofs.sizes.counted_terms.Goals as goal
 
 pub overflow_add-total : goal.overflow_add-total
 overflow_add-total c =

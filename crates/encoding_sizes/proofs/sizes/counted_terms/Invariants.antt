@@ -2,7 +2,7 @@ use Rattle.std.proofs.Common.{◌≡◌, ◌*◌, ◌≤◌, take}
 use Rattle.std.specs.List.{flat_map}
 use Rattle.rows.specs.Rows.{size_of}
 use Rattle.encoding_base.specs.Keys.{most_literals, rows_of_subject, subjects_of}
-use Rattle.encoding_sizes.proofs.sizes.class_terms.Given as goal
+use Rattle.encoding_sizes.proofs.sizes.counted_terms.Given as goal
 
 abbrev pub invariant-loop-place : goal.invariant-loop-place
 invariant-loop-place l = record {
