@@ -209,7 +209,7 @@ fn add_home_breaks(
     Ok(())
 }
 
-/// Adds the literals of their away breaks.
+/// Adds the literals of the away breaks of some teams at some slots.
 fn add_away_breaks(
     literals: &mut Vec<Lit>,
     n: u16,

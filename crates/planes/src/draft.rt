@@ -15,7 +15,7 @@ pub(crate) struct Draft {
 }
 
 impl Draft {
-    /// These steps behind so many rows.
+    /// A draft of some steps that are to come behind so many rows.
     pub(crate) fn new(steps: Log, rows: u64) -> Draft {
         Draft { steps, rows }
     }
