@@ -17,11 +17,13 @@ use Rattle.rows.specs.Cardinality.{at_most, unit}
 use Rattle.rows.specs.Literals.{Literal, negate}
 use Rattle.rows.specs.Rows.{Row}
 use Rattle.encoding_base.specs.Encoding.{demands}
+use Rattle.encoding_base.specs.Keys.{Bounded, key_of, separation}
 use Rattle.encoding_base.specs.Lists.{games_in}
+use Rattle.encoding_base.specs.declared.subjects.Subject.TheVariants.{Pair}
 use Rattle.encoding_sizes.proofs.ClassSizeLemmas.{two_meetings}
 use Rattle.encoding_sizes.proofs.SizeLemmas.{length-games_in, sum_by-constant, sum_by-same_at}
 use Rattle.bound_rows.specs.Parts.{se1_parts}
-use Rattle.bound_rows.specs.Sizes.{part_size, parts_size}
+use Rattle.bound_rows.specs.Sizes.{bounds_size, part_size, parts_size}
 
 -- rows that all demand something and have as many terms
 sum_each : (row : List ℕ → Row) (long c : ℕ) (firsts : List ℕ)
@@ -77,6 +79,18 @@ part_size-se1 n i j v several order =
       sum_each row long (2 * long + 1) firsts demanding (λ first. window_size n i j first long order),
       ap (λ (k : ℕ). k * (2 * long + 1)) (length-range_with_len 0 (slot_count n + 1 - long)),
     )
+
+-- the two rows of the key of two teams, of which one is listed, with one unit: equally many terms for each window
+pub window_terms : (n v count : ℕ) (key : Bounded) → 2 ≤ n → key ≡ key_of n (Se1 [] v) (Pair 0 1) 0
+    → count ≡ length key.literals → bounds_size 1 key.low key.high count ≡ 2 * separation n v + 1
+window_terms n v count key several same counted =
+    let long : ℕ = separation n v in
+    let games : count ≡ 2 * long =
+    counted ∙ ap (λ (k : Bounded). length k.literals) same ∙ two_games n 0 1 0 long (omega arith) in
+    let some : nat_lt 0 (2 * long - 1) ≡ true = above_one (2 * long) (omega arith) in
+    ap (λ (k : Bounded). bounds_size 1 k.low k.high count) same
+    ∙ ap (bounds_size 1 0 1) games
+    ∙ ap (λ (b : Bool). cond b (2 * long + 1) 0) some
 
 same_part : (n i j v : ℕ) → 2 ≤ n → i < j
     → part_size n (Se1 (i ∷ j ∷ []) v) ≡ part_size n (Se1 (0 ∷ 1 ∷ []) v)

@@ -6,7 +6,9 @@ ghost use Rattle.league.specs.Names.{name_of};
 ghost use Rattle.bound_rows.specs.Parts as parts;
 ghost use Rattle.bound_rows.specs.Sizes as sizes;
 
-use encoding_base::pair_total;
+use crate::groups::{bounds_terms, units_terms};
+use encoding_base::{pair_total, separation_key, separation_places};
+use encoding_sizes::literal_count;
 use league::{Class, ClassName, slot_count};
 
 /// How many terms the groups of an SE1 have: as many for each two of its teams.
@@ -39,15 +41,16 @@ fn pair_terms(n: u16, min: u32) -> u64
     total + last * u64::from(min - near)
 }
 
-/// How many terms the group of two teams and one least number of slots has: a row with a unit for each window, and the
-/// unit's term in the objective row.
+/// How many terms the group of two teams and one least number of slots has: it has one unit, and as many terms for each
+/// window.
 fn apart_terms(n: u16, min: u32) -> u64
     requires { IsTeamCount n }
     ensures terms { result ≡ sizes.part_size n (Class.Se1 (0 ∷ 1 ∷ []) min) }
     ensures most { result ≤ 12404 }
     ensures long { counts.slot_count n ≤ min → result ≤ 158 }
 {
-    let slots = u64::from(slot_count(n));
-    let window = (u64::from(min) + 1).min(slots);
-    (slots + 1 - window) * (2 * window + 1) + 1
+    let places = separation_places(n, min);
+    let key = separation_key(n, 0, 1, min, 0);
+    let row = bounds_terms(1, key.low, key.high, literal_count(n, key.counted));
+    places.len() as u64 * row + units_terms(1)
 }

@@ -1,12 +1,13 @@
 //! The keys of a class: the lists of literals that it bounds, and by how much.
-ghost use Rattle.std.specs.Prelude.{◌≡◌, ◌+◌, ◌^◌, ◌<◌, ◌≤◌, IsTrue};
+ghost use Rattle.std.specs.Prelude.{◌≡◌, ◌+◌, ◌^◌, ◌<◌, ◌≤◌, ℕ, List, IsTrue};
 ghost use Rattle.league.specs.Counts as counts;
 ghost use Rattle.league.specs.Instance.{IsTeamCount, are_slots, class_fits};
 ghost use Rattle.league.specs.Shapes.{has_opponents};
+ghost use Rattle.league.specs.declared.class.Class.TheVariants as class;
 ghost use Rattle.encoding_base.specs.Ascending.{AreSlots};
 ghost use Rattle.encoding_base.specs.Keys as keys;
 ghost use Rattle.encoding_base.specs.Keys.{IsListable, IsWithin, held, key_of};
-ghost use Rattle.encoding_base.specs.Keys.{most_counted, most_literals, suits, width};
+ghost use Rattle.encoding_base.specs.Keys.{most_counted, most_literals, separation, suits, width};
 ghost use Rattle.encoding_base.specs.Pairs.{IsPair};
 ghost use Rattle.encoding_base.specs.declared.subjects.Subject.TheVariants as subject;
 
@@ -276,15 +277,27 @@ fn pair_key(n: u16, class: &Class, first: u16, second: u16, place: u16) -> Key<'
             };
             Key { low, high, counted }
         }
-        Class::Se1 { min, .. } => {
-            let counted = Counted::Against {
-                team: first,
-                opponents: consecutive(second, 1),
-                side: Side::Both,
-                slots: consecutive(place, separation_window(n, *min)),
-            };
-            Key::new(0, 1, counted)
-        }
+        Class::Se1 { min, .. } => separation_key(n, first, second, *min, place),
         _ => unreachable!(),
     }
+}
+
+/// The key of an SE1 with this `min` for two teams, the earlier one first: at most one of their games is in the window
+/// from a place on. It doesn't depend on the other teams of the SE1.
+pub fn separation_key(n: u16, first: u16, second: u16, min: u32, place: u16) -> Key<'static>
+    requires n { IsTeamCount n }
+    requires pair { IsPair n (first, second) }
+    requires place { place + separation n min ≤ counts.slot_count n }
+    ensures key { (teams : List ℕ) → held n result ≡ key_of n (class.Se1 teams min) (subject.Pair first second) place }
+    ensures listable { IsListable n result.counted }
+    ensures few { most_counted result.counted ≤ 156 }
+    ensures low { result.low < 2 ^ 32 }
+{
+    let counted = Counted::Against {
+        team: first,
+        opponents: consecutive(second, 1),
+        side: Side::Both,
+        slots: consecutive(place, separation_window(n, min)),
+    };
+    Key::new(0, 1, counted)
 }

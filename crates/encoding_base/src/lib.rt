@@ -11,8 +11,8 @@ mod sets;
 mod subjects;
 mod variables;
 
-pub use keys::{Counted, Key, key_at};
+pub use keys::{Counted, Key, key_at, separation_key};
 pub use meetings::{all_meetings, meetings_in_order, pairs_of};
 pub use sets::{is_between, meeting_numbers, pair_total, slot_numbers, team_numbers, team_pairs};
-pub use subjects::{Subject, places_of, subject_at, subject_count};
+pub use subjects::{Subject, places_of, separation_places, subject_at, subject_count};
 pub use variables::{ab_at, h_at, h_count, has_breaks, hb_at, hb_count, x_at, x_count};

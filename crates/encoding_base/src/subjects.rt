@@ -1,10 +1,11 @@
 //! Whom a class bounds one by one, and at which places of the season.
-ghost use Rattle.std.specs.Prelude.{◌≡◌, ◌+◌, ◌-◌, ◌*◌, ◌<◌, ◌≤◌, ℕ, get_or, length, IsTrue};
+ghost use Rattle.std.specs.Prelude.{◌≡◌, ◌+◌, ◌-◌, ◌*◌, ◌<◌, ◌≤◌, ℕ, List, get_or, length, IsTrue};
 ghost use Rattle.std.specs.List.{All, range_with_len};
 ghost use Rattle.league.specs.Counts as counts;
 ghost use Rattle.league.specs.Instance.{IsTeamCount, class_fits};
 ghost use Rattle.league.specs.Meetings.{pairs_of};
 ghost use Rattle.league.specs.Shapes.{has_bounds};
+ghost use Rattle.league.specs.declared.class.Class.TheVariants as class;
 ghost use Rattle.encoding_base.specs.Keys as keys;
 ghost use Rattle.encoding_base.specs.Keys.{IsWithin, most_literals, separation, subjects_of, suits, width};
 ghost use Rattle.encoding_base.specs.declared.subjects.Subject.{Subject};
@@ -99,7 +100,7 @@ pub fn places_of(n: u16, class: &Class) -> &[u16]
     match class {
         Class::Ca3 { intp, .. } => firsts(n, u64::from(*intp)),
         Class::Fa2 { slots, .. } => slot_numbers(n, slots),
-        Class::Se1 { min, .. } => firsts(n, u64::from(separation_window(n, *min))),
+        Class::Se1 { min, .. } => separation_places(n, *min),
         Class::Ca4 {
             span: Span::Every,
             slots,
@@ -107,6 +108,16 @@ pub fn places_of(n: u16, class: &Class) -> &[u16]
         } => slot_numbers(n, slots),
         _ => consecutive(0, 1),
     }
+}
+
+/// The places at which an SE1 with this `min` bounds each two of its teams: the first slots of its windows.
+pub fn separation_places(n: u16, min: u32) -> &'static [u16]
+    requires n { IsTeamCount n }
+    ensures places { (teams : List ℕ) → result.now ≡ keys.places_of n (class.Se1 teams min) }
+    ensures fit { All (λ place. place + separation n min ≤ counts.slot_count n) result.now }
+    ensures few { length result.now ≤ 78 }
+{
+    firsts(n, u64::from(separation_window(n, min)))
 }
 
 /// How many slots a window of an SE1 has.

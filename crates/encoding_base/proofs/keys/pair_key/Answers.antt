@@ -40,36 +40,5 @@ returns-in-Fa2-clause-listable c =
 pub returns-in-Se1-clause-key : goal.returns-in-Se1-clause-key
 returns-in-Se1-clause-key c =
     let n = c.args.n in
-    let i = c.args.first in
-    let j = c.args.second in
-    let place = c.args.place in
-    let window = c.consecutive-in-Se1.result.now in
-    same_key n c.new.result _ _ _ _ c.new.ensures.low c.new.ensures.high c.new.ensures.counted
-    (ap (λ (ts : List ℕ). games_in n (meetings_in_order Both i ts) window) c.consecutive.ensures.numbers
-    ∙ ap (λ (ps : List (ℕ × ℕ)). games_in n ps window) (in_order-one i j c.requires.pair.order)
-    ∙ ap (λ (ss : List ℕ). games_in n (meetings_with Both i (j ∷ [])) ss)
-    (c.consecutive-in-Se1.ensures.numbers ∙ ap (range_with_len place) c.separation_window.ensures))
-    ∙ sym (ap (λ (class : Class). key_of n class (Pair i j) place) c.in-Se1.is)
-
-pub returns-in-Se1-clause-listable : goal.returns-in-Se1-clause-listable
-returns-in-Se1-clause-listable c =
-    let n = c.args.n in
-    let within : c.args.place + c.separation_window.result ≤ slot_count n =
-    omega (arith, c.requires.place, ap (width n) c.in-Se1.is, c.separation_window.ensures) in
-    let first : c.args.first < n = omega (arith, c.requires.pair.order, c.requires.pair.within) in
-    subst (λ (k : Counted). IsListable n k) (sym c.new.ensures.counted) (
-      first,
-      one_team n c.args.second c.consecutive.result.now c.requires.pair.within c.consecutive.ensures.numbers,
-      run_ascends n c.args.place c.separation_window.result c.consecutive-in-Se1.result.now
-          c.consecutive-in-Se1.ensures.numbers within,
-    )
-
-pub returns-in-Se1-clause-few : goal.returns-in-Se1-clause-few
-returns-in-Se1-clause-few c =
-    omega (
-      arith,
-      ap most_counted c.new.ensures.counted,
-      ap most_literals c.in-Se1.is,
-      ap length c.consecutive.ensures.numbers,
-      length-range_with_len c.args.second 1,
-    )
+    let pair = Pair c.args.first c.args.second in
+    c.separation_key.ensures.key _ ∙ sym (ap (λ (class : Class). key_of n class pair c.args.place) c.in-Se1.is)

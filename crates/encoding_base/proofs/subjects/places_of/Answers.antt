@@ -14,10 +14,4 @@ returns-in-Ca3-clause-fit c = λ k d there.
 
 pub returns-in-Se1-clause-fit : goal.returns-in-Se1-clause-fit
 returns-in-Se1-clause-fit c = λ k d there.
-    omega (
-      arith,
-      firsts_fit c.args.n c.from-in-Se1.result c.firsts-in-Se1.result.now c.firsts-in-Se1.ensures.firsts k d there,
-      c.from-in-Se1.ensures,
-      c.separation_window.ensures,
-      ap (width c.args.n) c.in-Se1.is,
-    )
+    omega (arith, c.separation_places.ensures.fit k d there, ap (width c.args.n) c.in-Se1.is)
