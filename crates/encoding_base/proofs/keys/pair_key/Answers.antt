@@ -1,16 +1,11 @@
-use Rattle.std.proofs.Common.{◌≡◌, ◌<◌, ◌≤◌, ℕ, ◌+◌, ◌-◌, List, [], ◌∷◌, ◌++◌, length, ap, sym, subst, ◌∙◌, arith}
-use Rattle.std.proofs.lemmas.List.FromFn.{length-range_with_len}
-use Rattle.std.specs.List.{range_with_len}
-use Rattle.league.specs.Capacity.{meetings_with}
+use Rattle.std.proofs.Common.{◌≡◌, ◌≤◌, ℕ, ◌+◌, ◌-◌, List, ◌++◌, ap, sym, ◌∙◌, arith}
 use Rattle.league.specs.Counts.{slot_count}
 use Rattle.league.specs.declared.class.Class.{Class}
-use Rattle.league.specs.declared.class.Side.TheVariants.{Both}
 use Rattle.rows.specs.Literals.{Literal}
-use Rattle.encoding_base.specs.Keys.{IsListable, key_of, most_counted, most_literals, width}
-use Rattle.encoding_base.specs.Lists.{at_home_in, away_in, games_in, meetings_in_order}
-use Rattle.encoding_base.specs.declared.keys.Counted.{Counted}
+use Rattle.encoding_base.specs.Keys.{key_of, width}
+use Rattle.encoding_base.specs.Lists.{at_home_in, away_in}
 use Rattle.encoding_base.specs.declared.subjects.Subject.TheVariants.{Pair}
-use Rattle.encoding_base.proofs.HeldKeys.{bounded, in_order-one, one_team, same_key}
+use Rattle.encoding_base.proofs.HeldKeys.{bounded}
 use Rattle.encoding_base.proofs.NumberLemmas.{run_ascends}
 use Rattle.encoding_base.proofs.keys.pair_key.Goals as goal
 
@@ -41,4 +36,4 @@ pub returns-in-Se1-clause-key : goal.returns-in-Se1-clause-key
 returns-in-Se1-clause-key c =
     let n = c.args.n in
     let pair = Pair c.args.first c.args.second in
-    c.separation_key.ensures.key _ ∙ sym (ap (λ (class : Class). key_of n class pair c.args.place) c.in-Se1.is)
+    c.separation_key.ensures.key c.in-Se1.teams ∙ sym (ap (λ (class : Class). key_of n class pair c.args.place) c.in-Se1.is)

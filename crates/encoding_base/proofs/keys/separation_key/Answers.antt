@@ -1,4 +1,4 @@
-use Rattle.std.proofs.Common.{◌≡◌, ◌<◌, ◌≤◌, ℕ, ◌+◌, List, [], ◌∷◌, length, ap, sym, subst, ◌∙◌, arith}
+use Rattle.std.proofs.Common.{◌<◌, ◌≤◌, ℕ, ◌+◌, List, [], ◌∷◌, length, ap, sym, subst, ◌∙◌, arith}
 use Rattle.std.proofs.lemmas.List.FromFn.{length-range_with_len}
 use Rattle.std.specs.List.{range_with_len}
 use Rattle.league.specs.Capacity.{meetings_with}
@@ -16,12 +16,12 @@ returns-clause-key c = λ teams.
     let n = c.args.n in
     let i = c.args.first in
     let j = c.args.second in
-    let window = c.consecutive-counted.result.now in
+    let window = c.consecutive-2.result.now in
     same_key n c.new.result _ _ _ _ c.new.ensures.low c.new.ensures.high c.new.ensures.counted
     (ap (λ (ts : List ℕ). games_in n (meetings_in_order Both i ts) window) c.consecutive.ensures.numbers
     ∙ ap (λ (ps : List (ℕ × ℕ)). games_in n ps window) (in_order-one i j c.requires.pair.order)
     ∙ ap (λ (ss : List ℕ). games_in n (meetings_with Both i (j ∷ [])) ss)
-    (c.consecutive-counted.ensures.numbers ∙ ap (range_with_len c.args.place) c.separation_window.ensures))
+    (c.consecutive-2.ensures.numbers ∙ ap (range_with_len c.args.place) c.separation_window.ensures))
 
 pub returns-clause-listable : goal.returns-clause-listable
 returns-clause-listable c =
@@ -32,8 +32,8 @@ returns-clause-listable c =
     subst (λ (k : Counted). IsListable n k) (sym c.new.ensures.counted) (
       first,
       one_team n c.args.second c.consecutive.result.now c.requires.pair.within c.consecutive.ensures.numbers,
-      run_ascends n c.args.place c.separation_window.result c.consecutive-counted.result.now
-          c.consecutive-counted.ensures.numbers within,
+      run_ascends n c.args.place c.separation_window.result c.consecutive-2.result.now
+          c.consecutive-2.ensures.numbers within,
     )
 
 pub returns-clause-few : goal.returns-clause-few

@@ -1,5 +1,5 @@
-use Rattle.std.proofs.Common.{ap, arith}
-use Rattle.encoding_base.specs.Keys.{width}
+use Rattle.std.proofs.Common.{ap, sym, ◌∙◌, arith}
+use Rattle.encoding_base.specs.Keys.{places_of, width}
 use Rattle.encoding_base.proofs.SubjectLemmas.{firsts_fit}
 use Rattle.encoding_base.proofs.subjects.places_of.Goals as goal
 
@@ -15,3 +15,7 @@ returns-in-Ca3-clause-fit c = λ k d there.
 pub returns-in-Se1-clause-fit : goal.returns-in-Se1-clause-fit
 returns-in-Se1-clause-fit c = λ k d there.
     omega (arith, c.separation_places.ensures.fit k d there, ap (width c.args.n) c.in-Se1.is)
+
+pub returns-in-Se1-clause-places : goal.returns-in-Se1-clause-places
+returns-in-Se1-clause-places c =
+    c.separation_places.ensures.places c.in-Se1.teams ∙ sym (ap (places_of c.args.n) c.in-Se1.is)
