@@ -8,8 +8,8 @@ use league::{ClassName, Constraint};
 pub(crate) enum Weighing {
     /// The hard constraints alone.
     Hard,
-    /// The hard constraints alone, each with a weight that grows by this part of it while it isn't met, and doesn't
-    /// fall.
+    /// The hard constraints alone, each with a weight that grows by this part of it while it isn't met, and falls far
+    /// more slowly while it is.
     Slow(u32),
     /// All constraints together: a soft one by its penalty, and each unit of a hard one's penalty by at least so much.
     Together(u32),
@@ -22,7 +22,7 @@ impl Weighing {
     /// All constraints together, where no soft one makes up for a hard one.
     pub(crate) const STRICT: Weighing = Weighing::Together(u32::MAX);
 
-    /// Whether weights grow slowly and never fall.
+    /// Whether weights grow slowly and fall far more slowly.
     pub(crate) fn is_slow(self) -> bool {
         matches!(self, Weighing::Slow(_))
     }
@@ -55,6 +55,9 @@ pub(crate) struct Weight {
     fall: u32,
 }
 
+/// A weight that grows slowly falls so many times more slowly.
+const SLOWER: u32 = 43;
+
 /// How many times its penalty the unit of a weight is, by the class of the constraint: more where few games are left to
 /// choose from once it is met.
 fn strength(class: ClassName) -> u32 {
@@ -80,7 +83,8 @@ impl Weight {
         }
     }
 
-    /// In 256ths, a weight that grows by this part of it, to at most five times as much, and never falls.
+    /// In 256ths, a weight that grows by this part of it, to at most five times as much, and falls by a small part of
+    /// that part.
     fn slow(self, growth: u32) -> Weight {
         let now = self.now.saturating_mul(256);
         Weight {
@@ -88,7 +92,7 @@ impl Weight {
             now,
             most: now.saturating_mul(5),
             growth,
-            fall: u32::MAX,
+            fall: growth.saturating_mul(SLOWER),
             ..self
         }
     }
