@@ -1,5 +1,5 @@
 -- How many terms the part of an SE1 has: as many for each two teams.
-use Rattle.std.proofs.Common.{◌≡◌, ℕ, ◌+◌, ◌-◌, ◌*◌, ◌<◌, ◌≤◌, Bool, true, cond, nat_lt, List, [], ◌∷◌, ◌++◌, length, map}
+use Rattle.std.proofs.Common.{◌≡◌, ℕ, ◌+◌, ◌-◌, ◌*◌, ◌<◌, ◌≤◌, Bool, true, cond, if◌then◌else◌, nat_lt, List, [], ◌∷◌, ◌++◌, length, map}
 use Rattle.std.proofs.Common.{min as smaller, get_or, sym, ap, ◌∙◌, arith}
 use Rattle.std.proofs.Math.Nat.{suc-mul}
 use Rattle.std.proofs.lemmas.Bool.Decides.{nat_tests}
@@ -23,7 +23,7 @@ use Rattle.encoding_base.specs.declared.subjects.Subject.TheVariants.{Pair}
 use Rattle.encoding_sizes.proofs.ClassSizeLemmas.{two_meetings}
 use Rattle.encoding_sizes.proofs.SizeLemmas.{length-games_in, sum_by-constant, sum_by-same_at}
 use Rattle.bound_rows.specs.Parts.{se1_parts}
-use Rattle.bound_rows.specs.Sizes.{bounds_size, part_size, parts_size}
+use Rattle.bound_rows.specs.Sizes.{bounds_size, part_size, parts_size, row_size}
 
 -- rows that all demand something and have as many terms
 sum_each : (row : List ℕ → Row) (long c : ℕ) (firsts : List ℕ)
@@ -88,9 +88,9 @@ window_terms n v count key several same counted =
     let games : count ≡ 2 * long =
     counted ∙ ap (λ (k : Bounded). length k.literals) same ∙ two_games n 0 1 0 long (omega arith) in
     let some : nat_lt 0 (2 * long - 1) ≡ true = above_one (2 * long) (omega arith) in
-    ap (λ (k : Bounded). bounds_size 1 k.low k.high count) same
-    ∙ ap (bounds_size 1 0 1) games
-    ∙ ap (λ (b : Bool). cond b (2 * long + 1) 0) some
+    let listed : row_size 1 (2 * long - 1) (2 * long) ≡ 2 * long + 1 =
+    ap (λ (b : Bool). if b then 2 * long + 1 else 0) some in
+    ap (λ (k : Bounded). bounds_size 1 k.low k.high count) same ∙ ap (bounds_size 1 0 1) games ∙ omega (arith, listed)
 
 same_part : (n i j v : ℕ) → 2 ≤ n → i < j
     → part_size n (Se1 (i ∷ j ∷ []) v) ≡ part_size n (Se1 (0 ∷ 1 ∷ []) v)
