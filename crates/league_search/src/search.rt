@@ -20,9 +20,9 @@ use std::alloc::{AllocError, Global};
 
 /// The rows of a league with rows of breaks behind them, and the sums that give these.
 #[derive(Drop)]
-struct Longer {
-    rows: RowStore,
-    sums: Log,
+pub(crate) struct Longer {
+    pub(crate) rows: RowStore,
+    pub(crate) sums: Log,
 }
 
 /// Searches for values that satisfy every row of a league, or a log that refutes them. With a limit it learns at most so
@@ -99,7 +99,10 @@ fn search_longer<W: Watch>(
 ///
 /// # Errors
 /// Only where memory runs out.
-fn with_break_rows(alloc: Global, encoding: &Encoding) -> Result<Option<Longer>, AllocError>
+pub(crate) fn with_break_rows(
+    alloc: Global,
+    encoding: &Encoding,
+) -> Result<Option<Longer>, AllocError>
     ensures longer { IfOk result (λ found. IfSome found (λ longer.
         IsLonger (rows_of encoding.now) (var_count encoding.now) longer.sums longer.rows)) }
     ensures writable { IfOk result (λ found. IfSome found (λ longer. IsWritable longer.sums)) }

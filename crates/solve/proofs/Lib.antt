@@ -8,6 +8,8 @@ pub mod KeptLemmas
 pub mod LowerLemmas
 -- What a walk from an accepted start leads to:
 mod StartLemmas
+-- What is found, or where that is spent, a log that refutes:
+mod PlaneLemmas
 -- What counts say:
 pub mod CountingLemmas
 -- Which of several tries is the best:

@@ -105,6 +105,22 @@ IsRefuted (Schedule games objective descent) = ⊥
 IsRefuted (Refuted log) = Unit {0}
 IsRefuted (Spent log patterns) = ⊥
 
+-- the answer is a log that is spent
+abbrev pub IsOpen : Solved → Type 0
+IsOpen (Schedule games objective descent) = ⊥
+IsOpen (Refuted log) = ⊥
+IsOpen (Spent log patterns) = Unit {0}
+
+-- the answer is a log that refutes the league
+abbrev pub RefutesBy : Instance → Solved → Type 0
+RefutesBy league (Schedule games objective descent) = ⊥
+RefutesBy league (Refuted log) = RefutesLeague league log
+RefutesBy league (Spent log patterns) = ⊥
+
+-- the answer is what is found, or where that is spent, a log that refutes the league
+abbrev pub IsFoundOrRefuted : Instance → Solved → Solved → Type 0
+IsFoundOrRefuted league found answer = (answer ≡ found) ⊎ (IsOpen found × RefutesBy league answer)
+
 -- the answer is a schedule that costs at most so much
 abbrev pub CostsAtMost : ℕ → Solved → Type 0
 CostsAtMost most (Schedule games objective descent) = objective ≤ most

@@ -17,6 +17,7 @@ use crate::attempt::try_search;
 use crate::circle::try_circle;
 use crate::counting::count_out;
 use crate::from_walk::walk_from;
+use crate::planes::found_or_refuted;
 use crate::prefer::true_in;
 use crate::share::{Share, walk_times};
 use crate::solved::Solved;
@@ -34,8 +35,8 @@ use std::alloc::{AllocError, Global};
 /// schedule that is accepted a descent goes on, at most so many moves a try. Where the first walk finds no such
 /// schedule, the schedule of the circle method takes its place if the league accepts that. Else patterns are searched,
 /// and then a schedule, by a search over the league's rows that decides first what is true of the start. The schedule
-/// of the least objective is the answer, of equal ones the earliest; a refutation is the answer at once. The watch may
-/// end each walk, and the tries behind the first.
+/// of the least objective is the answer, of equal ones the earliest; a refutation is the answer at once. Where all tries
+/// are spent, a search by cutting planes follows. The watch may end each walk and search, and the tries behind the first.
 ///
 /// # Errors
 /// `TooLarge` exactly where the league's rows have more than 40,000,000 terms, with their number, before anything
@@ -68,14 +69,15 @@ pub fn solve_from<W: Listener>(
     ensures crowded { are_crowded league.now ≡ true → IfOk result IsRefuted }
     ensures few { are_few league.now ≡ true → IfOk result IsRefuted }
 {
-    let _terms = check_size(league)?;
+    let terms = check_size(league)?;
     watch.tell(News::Phase(Phase::Counts));
     if let Some(log) = count_out(alloc, league)? {
         return Ok(Solved::Refuted(log));
     }
     let first = first_try(alloc, league, start, budgets, watch)?;
     let best = best_walk(alloc, league, start, budgets, first, watch)?;
-    Ok(best)
+    let solved = found_or_refuted(alloc, league, terms, budgets.conflicts, best, watch)?;
+    Ok(solved)
 }
 
 /// The first try: a walk, or where that finds no schedule the circle method, or a search.

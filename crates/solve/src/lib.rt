@@ -9,6 +9,7 @@ mod counting;
 mod from_season;
 mod from_walk;
 mod lower;
+mod planes;
 mod prefer;
 mod share;
 mod solved;

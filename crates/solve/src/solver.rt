@@ -20,6 +20,7 @@ use crate::attempt::try_both;
 use crate::circle::try_circle;
 use crate::counting::count_out;
 use crate::lower::Season;
+use crate::planes::found_or_refuted;
 use crate::prefer::{preferred, shuffled, venues};
 use crate::share::{Share, walk_times};
 use crate::solved::Solved;
@@ -47,8 +48,9 @@ use std::alloc::{AllocError, Global};
 /// try learns at most so many clauses, and then its log is the answer, with what is known of the patterns; without one
 /// it goes on to the end. The watch may end each search, walk and descent, and the tries behind the first. From a
 /// schedule that is accepted a descent goes on by moves to better ones, at most so many moves a try. The schedule of
-/// the least objective is the answer, of equal ones the earliest; a refutation is the answer at once. What a search
-/// finds first is not promised, and an objective is the schedule's own, not the least of all.
+/// the least objective is the answer, of equal ones the earliest; a refutation is the answer at once. Where all tries are
+/// spent, a search by cutting planes follows. What a search finds first is not promised, and an objective is the
+/// schedule's own, not the least of all.
 ///
 /// # Errors
 /// `TooLarge` exactly where the league's rows have more than 40,000,000 terms, with their number, before anything
@@ -77,12 +79,13 @@ pub fn solve<W: Listener>(
     ensures crowded { are_crowded league.now ≡ true → IfOk result IsRefuted }
     ensures few { are_few league.now ≡ true → IfOk result IsRefuted }
 {
-    let _terms = check_size(league)?;
+    let terms = check_size(league)?;
     watch.tell(News::Phase(Phase::Counts));
     if let Some(log) = count_out(alloc, league)? {
         return Ok(Solved::Refuted(log));
     }
-    let solved = best_try(alloc, league, budgets, watch)?;
+    let found = best_try(alloc, league, budgets, watch)?;
+    let solved = found_or_refuted(alloc, league, terms, budgets.conflicts, found, watch)?;
     Ok(solved)
 }
 

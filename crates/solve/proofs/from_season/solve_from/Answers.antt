@@ -4,6 +4,7 @@ use Rattle.circle_method.specs.Circle.{double_games}
 use Rattle.refutation.specs.Steps.{Step}
 use Rattle.solve.specs.Solutions.{RefutesLeague}
 use Rattle.solve.proofs.KeptLemmas.{answer-unstopped, as-set}
+use Rattle.solve.proofs.PlaneLemmas.{at_most-either, schedule-either, solution-either}
 use Rattle.solve.proofs.from_season.solve_from.Goals as goal
 
 pub returns-in-Some-clause-circle : goal.returns-in-Some-clause-circle
@@ -21,7 +22,9 @@ returns-in-Some-clause-no_worse g c = λ accepted.
     refutes.none c.args.start.now accepted
 
 pub returns-clause-no_worse : goal.returns-clause-no_worse
-returns-clause-no_worse g c = λ accepted. c.in_ok-best.ensures.at_most _ (c.in_ok-first.ensures.no_worse accepted)
+returns-clause-no_worse g c = λ accepted.
+    at_most-either c.args.league.now _ c.in_ok-best.best c.in_ok-solved.solved
+    (c.in_ok-best.ensures.at_most _ (c.in_ok-first.ensures.no_worse accepted)) c.in_ok-solved.ensures
 
 pub returns-in-Some-clause-solution : goal.returns-in-Some-clause-solution
 returns-in-Some-clause-solution g c = record {
@@ -31,7 +34,18 @@ returns-in-Some-clause-solution g c = record {
       c.in_ok-log.ensures.refuted;
 }
 
+pub returns-clause-solution : goal.returns-clause-solution
+returns-clause-solution g c =
+    solution-either c.args.league.now c.args.budgets (g.W.Watch.may_stop c.args.watch.now) c.in_ok-best.best
+    c.in_ok-solved.solved c.in_ok-best.ensures.solution c.in_ok-solved.ensures
+
 pub returns-clause-unstopped : goal.returns-clause-unstopped
 returns-clause-unstopped g c never =
     answer-unstopped c.args.league.now c.args.budgets (g.W.Watch.may_stop c.args.watch.now) _ never
-    c.in_ok-best.ensures.solution
+    (solution-either c.args.league.now c.args.budgets (g.W.Watch.may_stop c.args.watch.now) c.in_ok-best.best
+    c.in_ok-solved.solved c.in_ok-best.ensures.solution c.in_ok-solved.ensures)
+
+pub returns-clause-circle : goal.returns-clause-circle
+returns-clause-circle g c = λ accepted.
+    schedule-either c.args.league.now c.in_ok-best.best c.in_ok-solved.solved
+    (c.in_ok-best.ensures.schedule (c.in_ok-first.ensures.circle accepted)) c.in_ok-solved.ensures

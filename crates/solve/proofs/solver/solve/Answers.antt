@@ -5,6 +5,7 @@ use Rattle.refutation.specs.Steps.{Step}
 use Rattle.solve.specs.Solutions.{RefutesLeague}
 use Rattle.solve.proofs.EarliestLemmas.{refuted_untried}
 use Rattle.solve.proofs.KeptLemmas.{answer-unstopped, as-set}
+use Rattle.solve.proofs.PlaneLemmas.{best-either, schedule-either, solution-either}
 use Rattle.solve.proofs.solver.solve.Goals as goal
 
 pub returns-in-Some-clause-circle : goal.returns-in-Some-clause-circle
@@ -31,7 +32,23 @@ returns-in-Some-clause-best g c =
           c.in_ok-log.ensures.refuted;
     })
 
+pub returns-clause-solution : goal.returns-clause-solution
+returns-clause-solution g c =
+    solution-either c.args.league.now c.args.budgets (g.W.Watch.may_stop c.args.watch.now) c.in_ok-found.found
+    c.in_ok-solved.solved c.in_ok-found.ensures.solution c.in_ok-solved.ensures
+
 pub returns-clause-unstopped : goal.returns-clause-unstopped
 returns-clause-unstopped g c never =
     answer-unstopped c.args.league.now c.args.budgets (g.W.Watch.may_stop c.args.watch.now) _ never
-    c.in_ok-solved.ensures.solution
+    (solution-either c.args.league.now c.args.budgets (g.W.Watch.may_stop c.args.watch.now) c.in_ok-found.found
+    c.in_ok-solved.solved c.in_ok-found.ensures.solution c.in_ok-solved.ensures)
+
+pub returns-clause-best : goal.returns-clause-best
+returns-clause-best g c =
+    best-either c.args.league.now c.args.budgets (g.W.Watch.may_stop c.args.watch.now) c.in_ok-found.found
+    c.in_ok-solved.solved c.in_ok-found.ensures.best c.in_ok-solved.ensures
+
+pub returns-clause-circle : goal.returns-clause-circle
+returns-clause-circle g c = λ accepted.
+    schedule-either c.args.league.now c.in_ok-found.found c.in_ok-solved.solved
+    (c.in_ok-found.ensures.circle accepted) c.in_ok-solved.ensures

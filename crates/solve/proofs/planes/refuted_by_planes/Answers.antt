@@ -1,0 +1,7 @@
+use Rattle.solve.proofs.PlaneLemmas.{found_refutes}
+use Rattle.solve.proofs.planes.refuted_by_planes.Goals as goal
+
+pub returns : goal.returns
+returns g c =
+    found_refutes c.args.league.now c.in_ok-encoding.encoding c.in_ok-found.found c.in_ok-encoding.ensures
+    c.in_ok-found.ensures.instance c.in_ok-found.ensures.refuted c.in_ok-found.ensures.writable
