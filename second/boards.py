@@ -1,8 +1,8 @@
-"""Compares a transcript of moves with this second reading of the rules.
+"""Compares the moves of a transcript with this second reading of the rules.
 
 python3 second/boards.py [TRANSCRIPT]
 
-TRANSCRIPT is what `example_moves` prints (crates/example_moves/stdout, which the gate compares with what it prints).
+TRANSCRIPT is what `example_calls` prints (crates/example_calls/stdout, which the gate compares with what it prints).
 Said once more here, from the rules in words: the season of the circle method, whether each worked move is legal, which
 games it takes out and puts in, and how many moves of boards of two to eight teams there are and are legal, on the
 circle method's season and ten moves away from it. The games of an edit are compared without their order.
@@ -90,7 +90,7 @@ def read(path):
 
 
 def main():
-    path = sys.argv[1] if len(sys.argv) > 1 else os.path.join(TOP, "crates/example_moves/stdout")
+    path = sys.argv[1] if len(sys.argv) > 1 else os.path.join(TOP, "crates/example_calls/stdout")
     told, mine = read(path), list(own())
     wrong = [pair for pair in zip(told, mine) if pair[0] != pair[1]]
     for theirs, ours in wrong:
