@@ -27,7 +27,7 @@ returns-clause-answer g c =
     subst (λ (bytes : List ℕ). IsFile (store.contents c.args.solution.now) SOLUTION_LIMIT bytes) (sym c.deref-2.ensures.value)
     (subst (λ (known : Option (List ℕ)). IsFile known SOLUTION_LIMIT c.in_ok-second.second.items)
     (c.file.ensures.contents c.args.solution.now) c.in_ok-second.ensures.stage) in
-    proved-last store c.args.instance.now c.args.solution.now _ _ _ _ _ is_first c.in_ok-league.ensures
+    proved-last store c.args.instance.now c.args.solution.now _ _ _ _ is_first c.in_ok-league.ensures
     c.in_ok-terms.ensures.few is_second (answer_of c.in_ok-reply.reply)
     (says-value (codes "solution") _ c.in_ok-schedule.schedule _ (answer_of c.in_ok-reply.reply)
     c.in_ok-schedule.ensures.says c.in_ok-reply.ensures)
@@ -45,7 +45,7 @@ returns-in_err-schedule-clause-answer g c =
     (c.file.ensures.contents c.args.solution.now) c.in_ok-second.ensures.stage) in
     Answers-wider
     (IsMalformed (codes "solution") (solution_of c.in_ok-league.league.n (pieces c.deref-2.result.now))) _
-    (proved-malformed store c.args.instance.now c.args.solution.now _ _ _ _ _ is_first c.in_ok-league.ensures
+    (proved-malformed store c.args.instance.now c.args.solution.now _ _ _ _ is_first c.in_ok-league.ensures
     c.in_ok-terms.ensures.few is_second) _ (search rules)
 
 -- the solution isn't read, or memory ran out
@@ -71,7 +71,7 @@ returns-in_err-second-clause-answer g c =
     (unread-end front store rest is_rest (codes "solution") name SOLUTION_LIMIT c.in_err-second.field-0.0
     (λ reply is. rw is at c.in_err-second.ensures.stage)) in
     Answers-wider _ _
-    (proved-unread store c.args.instance.now name _ _ _ _ is_first c.in_ok-league.ensures
+    (proved-unread store c.args.instance.now name _ _ _ is_first c.in_ok-league.ensures
     c.in_ok-terms.ensures.few) _ unread
 
 -- the bound rows have too many terms, or memory ran out
@@ -84,5 +84,5 @@ returns-in_err-terms-clause-answer g c =
     Answers-wider
     (λ answer. (most_terms < bound_size c.in_ok-league.league)
     × (answer ≡ too_large (bound_size c.in_ok-league.league))) _
-    (proved-large store c.args.instance.now c.args.solution.now _ _ _ _ is_first c.in_ok-league.ensures) _
+    (proved-large store c.args.instance.now c.args.solution.now _ _ _ is_first c.in_ok-league.ensures) _
     (search rules)
