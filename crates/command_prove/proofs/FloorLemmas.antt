@@ -30,7 +30,7 @@ use Rattle.floors.specs.Floors.{IsFloor}
 use Rattle.floors.specs.declared.floor.Floor.{Floor}
 use Rattle.command_prove.specs.Bound.{bound_verdict}
 use Rattle.command_prove.specs.Floor.{IsFloorShown, IsFloorShownBy, reached_text}
-use Rattle.command_prove.specs.Prove.{spent_text}
+use Rattle.command_prove.specs.Prove.{IsBettered, spent_text}
 use Rattle.command_prove.specs.Told.{CanBeWritten, TellsFloor, TellsMissed, TellsNear}
 use Rattle.command_prove.proofs.ShownLemmas.{floor-certified, floor-verdict, least-verdict}
 
@@ -59,22 +59,22 @@ undercut-told : (league : Instance) (limit : Option ℕ) (asked costs sought : �
     (answer : Answer) → costs ≡ objective league (counts_of games) → sought ≡ min asked costs → IsTeamCount league.n
     → IsAccepted league (counts_of games) → IsSought league sought limit (Better better cost)
     → TellsFloor league costs sought (Better better cost) answer → IsFloorShown league asked limit games answer
-undercut-told league limit asked costs sought games better cost answer same lower teams accepted is told = inr (inr (inl (
-  record {
-    better = better;
-    accepted = accepted;
-    better_accepted = is.accepted;
-    fit = is.fit;
-    in_order = is.in_order;
-    lower = omega (arith, is.cost, is.lower, lower, same);
-    status = told.0;
-    text = told.1 ∙ ap (λ (c : ℕ). solution_text better (Some (0, c))) is.cost;
-    reads_back = ap (λ (written : List ℕ). solution_of league.n (pieces written)) told.1
-        ∙ solution-reads_back league.n better (Some (0, cost)) teams.at_most
-        (round_robin-few league.n league.phased better teams is.fit is.accepted.round_robin) is.fit;
-  },
-  omega (arith, is.cost, is.lower, lower),
-)))
+undercut-told league limit asked costs sought games better cost answer same lower teams accepted is told =
+    let found : IsBettered league games answer = record {
+      better = better;
+      accepted = accepted;
+      better_accepted = is.accepted;
+      fit = is.fit;
+      in_order = is.in_order;
+      lower = omega (arith, is.cost, is.lower, lower, same);
+      status = told.0;
+      text = told.1 ∙ ap (λ (c : ℕ). solution_text better (Some (0, c))) is.cost;
+      reads_back = ap (λ (written : List ℕ). solution_of league.n (pieces written)) told.1
+          ∙ solution-reads_back league.n better (Some (0, cost)) teams.at_most
+          (round_robin-few league.n league.phased better teams is.fit is.accepted.round_robin) is.fit;
+    } in
+    let under : objective league (counts_of better) < asked = omega (arith, is.cost, is.lower, lower) in
+    inr (inr (inl (found, under)))
 
 -- a floor that isn't below the bound is high enough, and else the log is written too
 missed-told : (league : Instance) (limit : Option ℕ) (asked costs sought : ℕ) (games : List Game) (floor : Floor)
@@ -188,8 +188,8 @@ replied-floor {E} league limits asked costs sought proved (Err error) lower team
 -- for one of them
 pub floor-for : {E : Type 0} (league : Instance) (limits : Option ℕ → Type 0) (asked costs : ℕ) (games : List Game)
     (result : Result Reply E) → IsAccepted league (counts_of games) → costs ≡ objective league (counts_of games)
-    → IfOk result (λ reply. (all : List Game) → IsAccepted league (counts_of all)
-    → costs ≡ objective league (counts_of all) → IsFloorShownBy league asked limits all (answer_of reply))
+    → IfOk result (λ reply. (season : List Game) → IsAccepted league (counts_of season)
+    → costs ≡ objective league (counts_of season) → IsFloorShownBy league asked limits season (answer_of reply))
     → IfOk result (λ reply. IsFloorShownBy league asked limits games (answer_of reply))
 floor-for {E} league limits asked costs games (Ok reply) accepted same shown = shown games accepted same
 floor-for {E} league limits asked costs games (Err error) accepted same shown = tt

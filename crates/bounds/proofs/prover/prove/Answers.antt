@@ -1,6 +1,7 @@
 use Rattle.std.proofs.Common.{◌≤◌, arith, inl, refl, subst, sym, ◌∙◌}
 use Rattle.league.specs.Accepted.{objective}
 use Rattle.league.specs.Counts.{counts_of}
+use Rattle.robin_watch.specs.Limits.{IsKeptTo}
 use Rattle.solve.proofs.FewLemmas.{round_robin-few}
 use Rattle.bounds.specs.Proofs.{IsProved}
 use Rattle.bounds.specs.declared.proved.Proved.{Proved}
@@ -50,7 +51,8 @@ pub returns : goal.returns
 returns g c =
     let no_lower : objective c.args.league.now (counts_of c.args.schedule.now) ≤ c.in_ok-lower.lower.objective =
     omega (arith, c.if-lower-from.false, c.from.ensures, c.in_64_bits-objective.ensures, c.requires.assessed) in
-    proved-by c.args.league.now (counts_of c.args.schedule.now) _ (g.W.Watch.may_stop c.args.watch.now) _
+    let may_stop = g.W.Watch.may_stop c.args.watch.now in
+    proved-by c.args.league.now (counts_of c.args.schedule.now) (IsKeptTo c.args.conflicts may_stop) may_stop _
     c.in_ok-proved.proved
     (sym (c.in_64_bits-objective.ensures ∙ c.requires.assessed)) (c.in_ok-lower.ensures.settles (omega arith) no_lower)
     c.in_ok-proved.ensures

@@ -18,8 +18,8 @@ show_least-requires-clause-accepted g c = c.in_ok-assessed.ensures.feasible.0 c.
 pub returns-in-None : goal.returns-in-None
 returns-in-None g c = rw c.in-None.is c.show_least.ensures
 
-pub returns-in-Some : goal.returns-in-Some
-returns-in-Some g c =
+pub returns : goal.returns
+returns g c =
     let may_stop = g.W.Watch.may_stop c.args.watch.now in
     rw c.in-Some.is
     (floor-for c.args.league.now (IsKeptTo c.args.aim.conflicts may_stop) c.in-Some.asked
