@@ -98,9 +98,10 @@ fn show_floor<W: Watch>(
         → counted.cost ≡ objective league.now (counts_of games)
         → IsFloorShownBy league.now asked (IsKeptTo conflicts (W.may_stop watch.now)) games (answer_of reply)) }
 {
-    let sought = lower(asked, counted.cost);
-    let proved = prove_bound(alloc, league, sought, conflicts, counted.terms, watch)?;
-    floor_reply(alloc, league, Sought { counted, bound: sought }, &proved, conflicts, watch)
+    let bound = lower(asked, counted.cost);
+    let proved = prove_bound(alloc, league, bound, conflicts, counted.terms, watch)?;
+    let sought = Sought { counted, bound };
+    floor_reply(alloc, league, sought, &proved, conflicts, watch)
 }
 
 /// The lower of a number and a cost.

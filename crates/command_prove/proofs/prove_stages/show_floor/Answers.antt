@@ -9,5 +9,5 @@ floor_reply-requires-clause-written g c =
 pub returns : goal.returns
 returns g c =
     replied-floor c.args.league.now (IsKeptTo c.args.conflicts (g.W.Watch.may_stop c.args.watch.now)) c.args.asked
-    c.args.counted.cost _ c.in_ok-proved.proved c.floor_reply.result c.lower-sought.ensures c.requires.instance.teams
+    c.args.counted.cost _ c.in_ok-proved.proved c.floor_reply.result c.lower-bound.ensures c.requires.instance.teams
     c.in_ok-proved.ensures c.floor_reply.ensures
