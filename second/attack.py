@@ -87,7 +87,7 @@ ENDS = {
     ("trial", 0): r"trial \d+ \d+\n.*</Solution>\n(<!-- [\w= ]+ -->\n)+",
     ("patterns", 0): r"(\d+ [HA]+\n)+",
     ("explain", 4): r"conflict( \d+)+\nminimal (yes|no)\nrefutation .*",
-    ("prove", 0): rf"bound 0\n|bound [1-9]\d*\n{LOG}",
+    ("prove", 0): rf"(objective \d+\n)?(bound 0\n|bound [1-9]\d*\n{LOG})",
     ("prove", 1): r"teams .*\nfeasible no\n",
     ("prove", 5): rf"objective [1-9]\d*\nbound (0\n|[1-9]\d*\n{LOG}){LOG}",
     ("prove", 9): r"<\?xml .*</Solution>\n",

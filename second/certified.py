@@ -181,8 +181,8 @@ def resume_fault(instance, solution, k, limit, ran):
     return None if verdict.startswith("accepted") else verdict
 
 
-def floored_fault(instance, text, objective, limit):
-    """What is wrong with what `prove` writes where its budget is spent: the objective, a certificate of a floor, a log."""
+def floored_fault(instance, text, objective, sought, limit):
+    """What is wrong with what `prove` writes where its budget is spent: the objective, a certificate of a floor below what is sought, a log."""
     line, _, rest = text.partition(b"\n")
     if line != b"objective %d" % objective:
         return f"not objective {objective}"
@@ -192,12 +192,22 @@ def floored_fault(instance, text, objective, limit):
         proof, end, log = log.partition(b"\nend\n")
         floor += proof + end
     verdict = bounded(instance, floor)
-    if verdict[0] != 0 or int(bound.split()[-1]) >= objective:
+    if verdict[0] != 0 or int(bound.split()[-1]) >= sought:
         return f"{bound} {verdict}"
-    return spent_fault(log, *rows.with_bound(softened_of(instance), objective - 1), limit)
+    return spent_fault(log, *rows.with_bound(softened_of(instance), sought - 1), limit)
 
 
-def prove_fault(instance, solution, limit, ran):
+def reached_fault(instance, text, objective, sought):
+    """What is wrong with what `prove --floor` writes where the floor is proved: the objective, and a certificate of what is sought or more."""
+    line, _, certificate = text.partition(b"\n")
+    bound = certificate.partition(b"\n")[0]
+    verdict = bounded(instance, certificate)
+    if line == b"objective %d" % objective and verdict[0] == 0 and sought <= int(bound.split()[-1]) <= objective:
+        return None
+    return f"{line} {bound} {verdict}"
+
+
+def prove_fault(instance, solution, limit, ran, floor=None):
     """What is wrong with what `prove` answered."""
     refusal = before_second(instance)
     league = league_of(instance)[0]
@@ -208,11 +218,14 @@ def prove_fault(instance, solution, limit, ran):
         wanted = (1, leagues.report(league, games))
         return None if (ran.status, ran.out.decode()) == wanted else f"not {wanted}"
     objective = leagues.sums(league, games)[1]
+    sought = objective if floor is None else min(floor, objective)
     if ran.status == 9:
         fault, _, better = season_fault(league, ran.out)
-        return fault or (None if better < objective else "not better")
-    if ran.status == 5 and objective:
-        return floored_fault(instance, ran.out, objective, limit)
+        return fault or (None if better < sought else "not better")
+    if ran.status == 5 and sought:
+        return floored_fault(instance, ran.out, objective, sought, limit)
+    if ran.status == 0 and floor is not None:
+        return reached_fault(instance, ran.out, objective, sought)
     if ran.status != 0:
         return f"status {ran.status} at {objective}"
     head = b"bound %d\n" % objective
@@ -233,13 +246,14 @@ def resumes(t, instance, solution, k, limit, files, then=lambda ran: None):
     t.later(["resume", *files, str(k), *more], judge)
 
 
-def proves(t, instance, solution, limit, files, then=lambda ran: None):
+def proves(t, instance, solution, limit, files, then=lambda ran: None, floor=None):
     """`prove` on two files, judged when its batch is run; then what is said."""
     more = [] if limit is None else ["--conflicts", "all" if limit == "all" else str(limit)]
+    more += [] if floor is None else ["--floor", str(floor)]
     limit = {None: 2000, "all": None}.get(limit, limit)
 
     def judge(ran):
-        fault = prove_fault(instance, solution, limit, ran)
+        fault = prove_fault(instance, solution, limit, ran, floor)
         t.must(not fault, "prove", more, fault, ran.status, ran.out[:300], files=files)
         then(ran)
 
@@ -274,6 +288,8 @@ def certificates(t):
         files = [t.path(f"soft-{number}.xml", instance), t.path(f"soft-season-{number}.xml", season)]
         for limit in (0, 1, 2, None):
             proves(t, instance, season, limit, files)
+            for floor in (0, 1, 3, 10, 2**64 - 1):
+                proves(t, instance, season, limit, files, floor=floor)
         for _ in range(60):
             said = []
             proves(t, instance, season, "all", files, said.append)
@@ -839,7 +855,7 @@ def reshown(t):
         limit = rng.choice([0, 1, 2, 4])
         count = lambda ran: kinds.update([ran.status])
         if rng.random() < 0.5:
-            proves(t, instance, solution, limit, files, count)
+            proves(t, instance, solution, limit, files, count, rng.choice([None, None, 0, 1, 2, 5, 20]))
         else:
             resumes(t, instance, solution, rng.randint(0, 7), limit, files, count)
         if number % 1000 == 0:

@@ -54,7 +54,7 @@ def drawn_words(rng, absent, kept):
     """Words of a command, of which a few were changed, put in or taken out; some with words that all commands share."""
     words = right_words(rng, absent)
     pool = [*forms.COMMANDS, "--help", "--version", "--near", "--quiet", "--out", "--log", "--objective", "--demands"]
-    pool += ["-", "-x", "--", "", *forms.COMMANDS["solve"][1], "--bound", "--form", "--most", "--width", "--room", "/dev/stdin"]
+    pool += ["-", "-x", "--", "", *forms.COMMANDS["solve"][1], "--bound", "--form", "--most", "--width", "--room", "--floor", "/dev/stdin"]
     pool += [absent, absent, "all", "csv"]
     pool += ["0", "1", "4", "6", "101", str(MOST), str(MOST + 1), "01", "1;2", "2;1", "\x1b[2J", "\u00e9", "a\nb"]
     for _ in range(rng.choice([0, 0, 1, 1, 2, 3])):

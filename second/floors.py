@@ -97,7 +97,7 @@ def floored(t, instance, it, season, path, ran, is_small):
     t.must(read_log(log) is not None, "the log behind the floor", files=files)
     if is_small:
         limit = max(log.count(b"\n") - 2, 0)
-        fault = floored_fault(instance, ran.out, objective, limit)
+        fault = floored_fault(instance, ran.out, objective, objective, limit)
         t.must(not fault, "second reading", fault, files=files)
         floor_with_room(t, instance, it, kept, certificate, ran_bound)
     return bound

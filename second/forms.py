@@ -512,6 +512,7 @@ def is_list(word):
 
 CONFLICTS = {"--conflicts": lambda word: word == "all" or is_number(word)}
 SECONDS = {"--seconds": is_number}
+FLOOR = {"--floor": is_number}
 ROOM = {"--room": is_number}
 SOLVE = {
     **CONFLICTS,
@@ -541,7 +542,7 @@ COMMANDS = {
     "patterns": ([is_file], CONFLICTS),
     "explain": ([is_file], {**CONFLICTS, **SECONDS}),
     "part": ([is_file, is_list], {}),
-    "prove": ([is_file, is_file], {**CONFLICTS, **SECONDS}),
+    "prove": ([is_file, is_file], {**CONFLICTS, **SECONDS, **FLOOR}),
     "bound": ([is_file, is_file], ROOM),
     "resume": ([is_file, is_file, is_number], {**CONFLICTS, **SECONDS}),
     "audit": ([is_file, is_file, is_number, is_file], ROOM),

@@ -13,7 +13,7 @@ _robin() {
         explain) options="--conflicts --log --out --quiet --seconds" ;;
         part) options="--log --out --quiet" ;;
         check) options="--log --out --quiet --room" ;;
-        prove) options="--conflicts --log --out --quiet --seconds" ;;
+        prove) options="--conflicts --floor --log --out --quiet --seconds" ;;
         bound) options="--log --out --quiet --room" ;;
         resume) options="--conflicts --from --log --moves --near --out --patterns --quiet --seconds --seed --tries" ;;
         audit) options="--log --out --quiet --room" ;;

@@ -35,7 +35,9 @@ use Rattle.bound_rows.specs.Bounded.{IsCounted}
 use Rattle.bound_rows.proofs.CostLaws.{costs-bounded}
 use Rattle.bound_rows.proofs.Faithful.{bounded-from_rows, bounds-from_refuted}
 use Rattle.bounds.specs.Lower.{IsLower}
-use Rattle.bounds.specs.Proofs.{IsBetter, IsLeast, IsSpentBelow}
+use Rattle.bounds.specs.Proofs.{IsBelow, IsLeast, IsNoneBelow, IsProved, IsProvedBy, IsSought, IsSoughtBy, IsSpentUnder}
+use Rattle.bounds.specs.declared.proved.Proved.{Proved}
+use Rattle.bounds.specs.declared.proved.Proved.TheVariants.{Least, Better, Spent}
 
 pub knows-from_known : (vars : ℕ) (rows : List Row) → AreKnown vars rows → All (KnowsVariables vars) rows
 knows-from_known vars rows known =
@@ -85,10 +87,10 @@ spent-named rows vars limit steps is =
 
 -- ---- answers
 
-pub better-of : {may_stop : Type 0} (league : Instance) (m : Counts) (moves cost : ℕ) (games : List Game)
-    (descent : Descended) → IsSchedule league moves may_stop games cost descent → cost < objective league m
-    → IsBetter league m games cost
-better-of league m moves cost games descent is less = record {
+pub below-of : {may_stop : Type 0} (league : Instance) (bound moves cost : ℕ) (games : List Game)
+    (descent : Descended) → IsSchedule league moves may_stop games cost descent → cost < bound
+    → IsBelow league bound games cost
+below-of league bound moves cost games descent is less = record {
   accepted = is.accepted;
   fit = is.fit;
   in_order = is.in_order;
@@ -106,38 +108,71 @@ decoded_bounded league bound values games is meets same =
       subst (λ (gs : List Game). objective league (counts_of gs) ≤ bound) (sym same) found.1,
     )
 
-pub least-of : (league : Instance) (m : Counts) (limit : Option ℕ) (cost : ℕ) (steps : List Step) → IsInstance league
-    → objective league m ≡ cost → 1 ≤ cost → Refutes (bound_rows league (cost - 1)) (bound_vars league) limit steps
-    → IsLeast league m limit cost steps
-least-of league m limit cost steps is costs some refutes = record {
-  cost = sym costs;
-  least = bounds-from_refuted league cost is
-      (accepted_logs_refute (bound_rows league (cost - 1)) (bound_vars league) steps refutes.accepted);
+pub none-of : (league : Instance) (limit : Option ℕ) (bound : ℕ) (steps : List Step) → IsInstance league → 1 ≤ bound
+    → Refutes (bound_rows league (bound - 1)) (bound_vars league) limit steps → IsNoneBelow league bound limit steps
+none-of league limit bound steps is some refutes = record {
+  least = bounds-from_refuted league bound is
+      (accepted_logs_refute (bound_rows league (bound - 1)) (bound_vars league) steps refutes.accepted);
   nothing = λ none. absurd (omega (arith, none, some));
   refutes = λ positive. refutes;
-  named = refuted-named (bound_rows league (cost - 1)) (bound_vars league) limit steps refutes;
+  named = refuted-named (bound_rows league (bound - 1)) (bound_vars league) limit steps refutes;
 }
 
-pub spent-of : (league : Instance) (m : Counts) (limit : Option ℕ) (may_stop : Type 0) (cost : ℕ) (steps : List Step)
-    → objective league m ≡ cost → may_stop ⊎ IsSettled league.n league.phased (league_score league) m → 1 ≤ cost
-    → IsSpentAt (bound_rows league (cost - 1)) (bound_vars league) limit steps
-    → IsSpentBelow league m limit may_stop steps
-spent-of league m limit may_stop cost steps costs settled some spent = record {
-  some = omega (arith, costs, some);
-  settled = settled;
-  spent = subst (λ (c : ℕ). IsSpentAt (bound_rows league (c - 1)) (bound_vars league) limit steps) (sym costs) spent;
-  named = spent-named (bound_rows league (cost - 1)) (bound_vars league) limit steps spent;
+pub spent-of : (league : Instance) (limit : Option ℕ) (bound : ℕ) (steps : List Step) → 1 ≤ bound
+    → IsSpentAt (bound_rows league (bound - 1)) (bound_vars league) limit steps
+    → IsSpentUnder league bound limit steps
+spent-of league limit bound steps some spent = record {
+  some = some;
+  spent = spent;
+  named = spent-named (bound_rows league (bound - 1)) (bound_vars league) limit steps spent;
 }
 
-pub least_of_none : (league : Instance) (m : Counts) (limit : Option ℕ) → objective league m ≡ 0
-    → IsLeast league m limit 0 []
-least_of_none league m limit costs = record {
-  cost = sym costs;
+pub none_below_0 : (league : Instance) (limit : Option ℕ) → IsNoneBelow league 0 limit []
+none_below_0 league limit = record {
   least = λ other accepted. omega arith;
   nothing = λ none. refl;
   refutes = λ some. absurd (omega (arith, some));
   named = All-nil NamesRows;
 }
+
+pub least_of_none : (league : Instance) (m : Counts) (limit : Option ℕ) → objective league m ≡ 0
+    → IsLeast league m limit 0 []
+least_of_none league m limit costs =
+    let none : IsNoneBelow league 0 limit [] = none_below_0 league limit in
+    record {
+      cost = sym costs;
+      least = none.least;
+      nothing = none.nothing;
+      refutes = none.refutes;
+      named = none.named;
+    }
+
+-- what an answer says of a bound it says of a schedule that costs as much and that no single move betters
+pub proved-of : (league : Instance) (m : Counts) (limit : Option ℕ) (may_stop : Type 0) (cost : ℕ) (proved : Proved)
+    → objective league m ≡ cost → may_stop ⊎ IsSettled league.n league.phased (league_score league) m
+    → IsSought league cost limit proved → IsProved league m limit may_stop proved
+proved-of league m limit may_stop cost (Least least log) costs settled (same, none) =
+    let is : IsNoneBelow league least limit log = subst (λ (c : ℕ). IsNoneBelow league c limit log) (sym same) none in
+    record {
+      cost = same ∙ sym costs;
+      least = is.least;
+      nothing = is.nothing;
+      refutes = is.refutes;
+      named = is.named;
+    }
+proved-of league m limit may_stop cost (Better games lower) costs settled is =
+    subst (λ (c : ℕ). IsBelow league c games lower) (sym costs) is
+proved-of league m limit may_stop cost (Spent log) costs settled is =
+    let under : IsSpentUnder league (objective league m) limit log =
+    subst (λ (c : ℕ). IsSpentUnder league c limit log) (sym costs) is in
+    record { some = under.some; settled = settled; spent = under.spent; named = under.named }
+
+pub proved-by : (league : Instance) (m : Counts) (limits : Option ℕ → Type 0) (may_stop : Type 0) (cost : ℕ)
+    (proved : Proved) → objective league m ≡ cost
+    → may_stop ⊎ IsSettled league.n league.phased (league_score league) m → IsSoughtBy league cost limits proved
+    → IsProvedBy league m limits may_stop proved
+proved-by league m limits may_stop cost proved costs settled (limit, is, sought) =
+    (limit, is, proved-of league m limit may_stop cost proved costs settled sought)
 
 -- what a search answers is over the rows and the variables that it was given
 pub answer-of : (league : Instance) (bound vars : ℕ) (rows : List Row) (limit : Option ℕ) (answer : Found)
@@ -182,11 +217,3 @@ below-start league was moves cost start games descent lower is first =
       ap (λ (m : Counts). objective league m) first,
       lower.lower,
     )
-
--- the end of such a descent betters a schedule that costs as much as that number
-pub better-below : {may_stop : Type 0} (league : Instance) (m : Counts) (was moves cost : ℕ) (start games : List Game)
-    (descent : Descended) → IsLower league was start → IsSchedule league moves may_stop games cost descent
-    → counts_of descent.first ≡ counts_of start → objective league m ≡ was → IsBetter league m games cost
-better-below league m was moves cost start games descent lower is first costs =
-    better-of league m moves cost games descent is
-    (omega (arith, below-start league was moves cost start games descent lower is first, costs))

@@ -1,5 +1,5 @@
 -- What is shown of a schedule that a league accepts, given by the counts m of its games: that none costs less, a
--- schedule that does, or a log that is spent.
+-- schedule that does, or a log that is spent. And what is shown so of a bound.
 use Rattle.std.specs.Prelude.{◌≡◌, ◌⊎◌, ℕ, ◌-◌, ◌<◌, ◌≤◌, List, [], Option}
 use Rattle.std.specs.List.{All}
 use Rattle.league.specs.Accepted.{IsAccepted}
@@ -27,13 +27,17 @@ pub record IsLeast (league : Instance) (m : Counts) (limit : Option ℕ) (object
     pub refutes : 1 ≤ objective → Refutes (bound_rows league (objective - 1)) (bound_vars league) limit steps
     pub named : All NamesRows steps
 
--- Games that the league accepts, in order, with their objective, which is below the schedule's.
-pub record IsBetter (league : Instance) (m : Counts) (games : List Game) (objective : ℕ) : Type 0 where
+-- Games that the league accepts, in order, with their objective, which is below a bound.
+pub record IsBelow (league : Instance) (bound : ℕ) (games : List Game) (objective : ℕ) : Type 0 where
   pub accepted : IsAccepted league (counts_of games)
   pub fit : All (IsGame league.n) games
   pub in_order : IsInOrder games
   pub cost : objective ≡ costs.objective league (counts_of games)
-  pub lower : objective < costs.objective league m
+  pub lower : objective < bound
+
+-- such games, which cost less than the schedule
+abbrev pub IsBetter : Instance → Counts → List Game → ℕ → Type 0
+IsBetter league m games objective = IsBelow league (costs.objective league m) games objective
 
 -- The budget ran out. The schedule's objective is at least 1. No single legal move betters the schedule, where nothing
 -- may stop the run. The log is spent at the limit over the bound rows of one less than this objective. The log can be
@@ -54,3 +58,30 @@ IsProved league m limit may_stop (Spent log) = IsSpentBelow league m limit may_s
 -- what each answer says, if the search keeps to one of these limits
 abbrev pub IsProvedBy : Instance → Counts → (Option ℕ → Type 0) → Type 0 → Proved → Type 0
 IsProvedBy league m limits may_stop proved = (limit : Option ℕ) × limits limit × IsProved league m limit may_stop proved
+
+-- ---- a search for a schedule that costs less than a bound
+
+-- No accepted schedule costs less than the bound. If the bound is 0, the log is empty. Else the log is accepted over the
+-- bound rows of one less. The log can be written.
+pub record IsNoneBelow (league : Instance) (bound : ℕ) (limit : Option ℕ) (steps : List Step) : Type 0 where
+  pub least : IsLowerBound league bound
+  pub nothing : bound ≡ 0 → steps ≡ []
+  pub refutes : 1 ≤ bound → Refutes (bound_rows league (bound - 1)) (bound_vars league) limit steps
+  pub named : All NamesRows steps
+
+-- The budget ran out. The bound is at least 1. The log is spent at the limit over the bound rows of one less. The log
+-- can be written.
+pub record IsSpentUnder (league : Instance) (bound : ℕ) (limit : Option ℕ) (steps : List Step) : Type 0 where
+  pub some : 1 ≤ bound
+  pub spent : IsSpentAt (bound_rows league (bound - 1)) (bound_vars league) limit steps
+  pub named : All NamesRows steps
+
+-- what each answer says of a bound, if the search learns at most `limit` clauses
+abbrev pub IsSought : Instance → ℕ → Option ℕ → Proved → Type 0
+IsSought league bound limit (Least objective log) = (objective ≡ bound) × IsNoneBelow league bound limit log
+IsSought league bound limit (Better games objective) = IsBelow league bound games objective
+IsSought league bound limit (Spent log) = IsSpentUnder league bound limit log
+
+-- what each answer says of a bound, if the search keeps to one of these limits
+abbrev pub IsSoughtBy : Instance → ℕ → (Option ℕ → Type 0) → Proved → Type 0
+IsSoughtBy league bound limits proved = (limit : Option ℕ) × limits limit × IsSought league bound limit proved

@@ -1,20 +1,18 @@
 //! Whether a schedule can be bettered. The search is one step of that of minisat+ for a least objective: the rows ask
 //! for one less.
-ghost use Rattle.std.specs.Prelude.{◌≡◌, ◌⊎◌, ℕ, ◌-◌, ◌^◌, ◌<◌, ◌≤◌, [], length, IfOk, Option};
+ghost use Rattle.std.specs.Prelude.{◌≡◌, ℕ, ◌-◌, ◌^◌, ◌<◌, ◌≤◌, [], length, IfOk, Option};
 ghost use Rattle.std.specs.List.{All};
 ghost use Rattle.league.specs.Accepted.{IsAccepted};
 ghost use Rattle.league.specs.Accepted as costs;
-ghost use Rattle.league.specs.Counts.{Counts, counts_of};
+ghost use Rattle.league.specs.Counts.{counts_of};
 ghost use Rattle.league.specs.Instance.{IsGame};
 ghost use Rattle.rows.specs.Rows.{SatisfiesAll};
 ghost use Rattle.rows.specs.Values.{assigned};
-ghost use Rattle.descent.specs.Settled.{IsSettled};
-ghost use Rattle.solve.specs.Solutions.{league_score};
 ghost use Rattle.bound_rows.specs.BoundRows.{bound_rows, bound_vars};
 ghost use Rattle.bound_rows.specs.Bounded.{IsCounted};
 ghost use Rattle.bounds.specs.Lower.{IsLower};
 ghost use Rattle.robin_watch.specs.Limits.{IsKeptTo};
-ghost use Rattle.bounds.specs.Proofs.{IsProved, IsProvedBy};
+ghost use Rattle.bounds.specs.Proofs.{IsProvedBy, IsSought, IsSoughtBy};
 
 use crate::proved::Proved;
 use bound_rows::bound_system;
@@ -77,6 +75,33 @@ pub fn prove<W: Watch>(
     Ok(proved)
 }
 
+/// Searches for a schedule that the league accepts and that costs less than a bound, shows that there is none, or spends
+/// its budget of `conflicts`. Nothing costs less than 0, so that a bound of 0 needs no search.
+///
+/// The search goes over the bound rows of one less than the bound; it learns at most `conflicts` clauses. From a schedule
+/// that it finds, a descent goes on. The watch hears of the search, and may end it and the descent. Which schedule is
+/// found is not promised.
+///
+/// # Errors
+/// Only where memory runs out.
+pub fn prove_bound<W: Watch>(
+    alloc: Global,
+    league: &League,
+    bound: u64,
+    conflicts: Option<u64>,
+    terms: u64,
+    watch: &W,
+) -> Result<Proved, AllocError>
+    requires { IsCounted league.now terms }
+    ensures { IfOk result (IsSoughtBy league.now bound (IsKeptTo conflicts (W.may_stop watch.now))) }
+{
+    if bound == 0 {
+        return Ok(least_of_all(alloc));
+    }
+    let proved = searched(alloc, league, bound, conflicts, terms, watch)?;
+    Ok(proved)
+}
+
 /// A number that 64 bits hold.
 fn in_64_bits(number: u128) -> u64
     requires { number < 2 ^ 64 }
@@ -111,8 +136,7 @@ fn bettered(lower: Season) -> Proved
     }
 }
 
-/// The answer of a search over the bound rows of one less than an objective, of which the watch hears. It holds for each
-/// schedule of this objective that no single move betters, and for each one where the watch may end the run.
+/// The answer of a search over the bound rows of one less than an objective, of which the watch hears.
 fn searched<W: Watch>(
     alloc: Global,
     league: &League,
@@ -123,9 +147,7 @@ fn searched<W: Watch>(
 ) -> Result<Proved, AllocError>
     requires some { 1 ≤ objective }
     requires counted { IsCounted league.now terms }
-    ensures { IfOk result (λ proved. (m : Counts) → costs.objective league.now m ≡ objective
-        → W.may_stop watch.now ⊎ IsSettled league.now.n league.now.phased (league_score league.now) m
-        → IsProvedBy league.now m (IsKeptTo conflicts (W.may_stop watch.now)) (W.may_stop watch.now) proved) }
+    ensures { IfOk result (IsSoughtBy league.now objective (IsKeptTo conflicts (W.may_stop watch.now))) }
 {
     watch.tell(News::Bound { objective });
     let system = bound_system(alloc, league, objective - 1, terms)?;
@@ -151,8 +173,7 @@ fn decoded<W: Watch>(
     requires some { 1 ≤ objective }
     requires count { length values.now ≡ bound_vars league.now }
     requires satisfied { SatisfiesAll (assigned values.now) (bound_rows league.now (objective - 1)) }
-    ensures { IfOk result (λ proved. (m : Counts) (limit : Option ℕ)
-        → costs.objective league.now m ≡ objective → IsProved league.now m limit (W.may_stop watch.now) proved) }
+    ensures { IfOk result (λ proved. (limit : Option ℕ) → IsSought league.now objective limit proved) }
 {
     let schedule = schedule_of(alloc, league, values, objective)?;
     let lower = lowered_watched(alloc, league, &schedule, MOVES, watch)?;

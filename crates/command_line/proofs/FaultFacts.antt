@@ -9,6 +9,8 @@ pub option_role-some : (option_role topic.Solve (codes "--seed") ≡ Some role.D
     × (option_role topic.Solve (codes "--seconds") ≡ Some role.Seconds)
     × (option_role topic.Explain (codes "--conflicts") ≡ Some role.Conflicts)
     × (option_role topic.Prove (codes "--moves") ≡ None)
+    × (option_role topic.Prove (codes "--floor") ≡ Some role.Floor)
+    × (option_role topic.Explain (codes "--floor") ≡ None)
     × (option_role topic.Resume (codes "--seconds") ≡ Some role.Seconds)
     × (option_role topic.Explain (codes "--seconds") ≡ Some role.Seconds)
     × (option_role topic.Patterns (codes "--seconds") ≡ None)
@@ -17,7 +19,7 @@ pub option_role-some : (option_role topic.Solve (codes "--seed") ≡ Some role.D
     × (option_role topic.Values (codes "--room") ≡ None)
     × (option_role topic.Solve (codes "--from") ≡ Some role.Solution)
     × (option_role topic.Trial (codes "--from") ≡ None)
-option_role-some = (refl, refl, refl, refl, refl, refl, refl, refl, refl, refl, refl, refl, refl)
+option_role-some = (refl, refl, refl, refl, refl, refl, refl, refl, refl, refl, refl, refl, refl, refl, refl)
 
 pub fits-some : (fits role.Teams (codes "8") ≡ true)
     × (fits role.Teams (codes "7") ≡ false)
@@ -27,7 +29,8 @@ pub fits-some : (fits role.Teams (codes "8") ≡ true)
     × (fits role.Members (codes "2;1") ≡ false)
     × (fits role.Log (codes "-a") ≡ false)
     × (fits role.Slots (codes "03") ≡ false)
-fits-some = (refl, refl, refl, refl, refl, refl, refl, refl)
+    × (fits role.Floor (codes "all") ≡ false)
+fits-some = (refl, refl, refl, refl, refl, refl, refl, refl, refl)
 
 -- `--objective` has no value, and `rows` alone has it
 pub flags : (is_flag topic.Rows (codes "--objective") ≡ true)

@@ -108,7 +108,7 @@ solve-seconds = (refl, refl, refl, refl, refl)
 
 -- a time limit of `prove`, `resume` and `explain` changes nothing of what they are asked
 pub timed-seconds : (reading (codes "prove" ∷ codes "a" ∷ codes "b" ∷ codes "--seconds" ∷ codes "5" ∷ [])
-    ≡ Some (Prove (codes "a") (codes "b") (Some 2000)))
+    ≡ Some (Prove (codes "a") (codes "b") None (Some 2000)))
     × (reading (codes "resume" ∷ codes "--seconds" ∷ codes "0" ∷ codes "a" ∷ codes "b" ∷ codes "3" ∷ codes "--conflicts"
     ∷ codes "all" ∷ []) ≡ Some (Resume (codes "a") (codes "b") 3 None))
     × (reading (codes "prove" ∷ codes "a" ∷ codes "b" ∷ codes "--seconds" ∷ codes "x" ∷ []) ≡ None)
@@ -317,14 +317,27 @@ part-none = (refl, refl, refl, refl, refl)
 -- ---- `prove` and `bound`
 
 -- with the usual budget, and with the option before the files, between and behind them
-pub prove-some : (reading (codes "prove" ∷ codes "a" ∷ codes "b" ∷ []) ≡ Some (Prove (codes "a") (codes "b") (Some 2000)))
+pub prove-some : (reading (codes "prove" ∷ codes "a" ∷ codes "b" ∷ []) ≡ Some (Prove (codes "a") (codes "b") None (Some 2000)))
     × (reading (codes "prove" ∷ codes "--conflicts" ∷ codes "0" ∷ codes "a" ∷ codes "b" ∷ [])
-    ≡ Some (Prove (codes "a") (codes "b") (Some 0)))
+    ≡ Some (Prove (codes "a") (codes "b") None (Some 0)))
     × (reading (codes "prove" ∷ codes "a" ∷ codes "--conflicts" ∷ codes "7" ∷ codes "b" ∷ [])
-    ≡ Some (Prove (codes "a") (codes "b") (Some 7)))
+    ≡ Some (Prove (codes "a") (codes "b") None (Some 7)))
     × (reading (codes "prove" ∷ codes "a" ∷ codes "b" ∷ codes "--conflicts" ∷ codes "all" ∷ [])
-    ≡ Some (Prove (codes "a") (codes "b") None))
+    ≡ Some (Prove (codes "a") (codes "b") None None))
 prove-some = (refl, refl, refl, refl)
+
+-- a floor, beside the other options too; twice, without its number, with `all` or with a leading zero; with another
+-- command
+pub prove-floor : (reading (codes "prove" ∷ codes "a" ∷ codes "b" ∷ codes "--floor" ∷ codes "380" ∷ [])
+    ≡ Some (Prove (codes "a") (codes "b") (Some 380) (Some 2000)))
+    × (reading (codes "prove" ∷ codes "--floor" ∷ codes "0" ∷ codes "a" ∷ codes "--conflicts" ∷ codes "all" ∷ codes "b" ∷ [])
+    ≡ Some (Prove (codes "a") (codes "b") (Some 0) None))
+    × (reading (codes "prove" ∷ codes "a" ∷ codes "b" ∷ codes "--floor" ∷ codes "1" ∷ codes "--floor" ∷ codes "1" ∷ []) ≡ None)
+    × (reading (codes "prove" ∷ codes "a" ∷ codes "b" ∷ codes "--floor" ∷ []) ≡ None)
+    × (reading (codes "prove" ∷ codes "a" ∷ codes "b" ∷ codes "--floor" ∷ codes "all" ∷ []) ≡ None)
+    × (reading (codes "prove" ∷ codes "a" ∷ codes "b" ∷ codes "--floor" ∷ codes "01" ∷ []) ≡ None)
+    × (reading (codes "explain" ∷ codes "a" ∷ codes "--floor" ∷ codes "1" ∷ []) ≡ None)
+prove-floor = (refl, refl, refl, refl, refl, refl, refl)
 
 -- no file, one or three, an option in place of a file, an option of `solve` alone, the option twice, without its value
 -- or with a wrong one, another spelling

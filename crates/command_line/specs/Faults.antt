@@ -9,7 +9,7 @@ use Rattle.command_line.specs.declared.topic.Topic.TheVariants as topic
 use Rattle.command_line.specs.declared.role.Role.{Role}
 use Rattle.command_line.specs.declared.role.Role.TheVariants.{Instance, Solution, Log, Values, Slots, Teams, Seed}
 use Rattle.command_line.specs.declared.role.Role.TheVariants.{Members, Conflicts, Moves, Tries, Patterns, Draws, Seconds}
-use Rattle.command_line.specs.declared.role.Role.TheVariants.{Bound, Form, Most, Room, Width}
+use Rattle.command_line.specs.declared.role.Role.TheVariants.{Bound, Floor, Form, Most, Room, Width}
 use Rattle.command_line.specs.declared.fault.WordFault.{WordFault}
 use Rattle.command_line.specs.declared.fault.WordFault.TheVariants.{NoWord, NoCommand, NotAlone, NoOption, NoValue, Twice}
 use Rattle.command_line.specs.declared.fault.WordFault.TheVariants.{Beside, Unfit, Missing, Surplus, Other}
@@ -32,6 +32,7 @@ fits Draws word = is_some (number_in word)
 fits Seconds word = is_some (number_in word)
 fits Room word = is_some (number_in word)
 fits Bound word = is_some (number_in word)
+fits Floor word = is_some (number_in word)
 fits Form word = is_some (form_in word)
 fits Most word = is_some (most_in word)
 fits Width word = is_some (small_in word)
@@ -58,6 +59,10 @@ solve_option word =
 abbrev pub start_option : List ℕ → Option Role
 start_option word = if bytes_eq word (codes "--from") then Some Solution else solve_option word
 
+-- of the options of `prove`: those of a search, and the floor
+abbrev pub prove_option : List ℕ → Option Role
+prove_option word = if bytes_eq word (codes "--floor") then Some Floor else timed_option word
+
 -- of the option of the commands that check logs
 abbrev pub log_option : List ℕ → Option Role
 log_option word = if bytes_eq word (codes "--room") then Some Room else None
@@ -79,7 +84,7 @@ option_role topic.Solve word = start_option word
 option_role topic.Trial word = solve_option word
 option_role topic.Patterns word = search_option word
 option_role topic.Explain word = timed_option word
-option_role topic.Prove word = timed_option word
+option_role topic.Prove word = prove_option word
 option_role topic.Resume word = solve_option word
 option_role topic.Rows word = row_option word
 option_role topic.Show word = show_option word

@@ -26,7 +26,7 @@ pub data Command : Type 0 where
   Patterns : (instance : List ℕ) → (conflicts : Option ℕ) → Command
   Explain : (instance : List ℕ) → (conflicts : Option ℕ) → Command
   Part : (instance members : List ℕ) → Command
-  Prove : (instance solution : List ℕ) → (conflicts : Option ℕ) → Command
+  Prove : (instance solution : List ℕ) → (floor conflicts : Option ℕ) → Command
   Bound : (instance log : List ℕ) → Command
   Resume : (instance solution : List ℕ) → (k : ℕ) → (conflicts : Option ℕ) → Command
   ResumeNear : (instance solution : List ℕ) → (k : ℕ) → (budgets : Budgets) → Command
@@ -202,7 +202,7 @@ timed_conflicts_in words = do
   conflicts_in words
 
 -- the names of options: of those that say how far a search goes, without a time limit and with it, how far `solve` and
--- `trial` go, and of all of `solve`
+-- `trial` go, of all of `solve`, and of all of `prove`
 abbrev pub search_options : List (List ℕ)
 search_options = codes "--conflicts" ∷ []
 
@@ -216,6 +216,9 @@ solve_options =
 
 abbrev pub start_options : List (List ℕ)
 start_options = codes "--from" ∷ solve_options
+
+abbrev pub prove_options : List (List ℕ)
+prove_options = codes "--floor" ∷ timed_options
 
 -- the name of the option of the commands that check logs
 abbrev pub log_options : List (List ℕ)
@@ -248,12 +251,17 @@ explaining words =
     then option_and_then (λ file. option_map (Explain file) (timed_conflicts_in words)) (one_file (arguments_of words))
     else None
 
--- `prove` over two files, with how many clauses its search may learn, and a time limit, said before, between or behind
--- them
+-- the number that no season is to cost less than, where the words say one
+abbrev pub floor_in : List (List ℕ) → Option (Option ℕ)
+floor_in words = said None limit_in (values_of (codes "--floor") words)
+
+-- `prove` over two files, with a floor or none, how many clauses its search may learn, and a time limit, said before,
+-- between or behind them
 abbrev pub proving : List (List ℕ) → Option Command
 proving words =
-    if has_options timed_options words
-    then option_and_then (λ files. option_map (Prove files.0 files.1) (timed_conflicts_in words))
+    if has_options prove_options words
+    then option_and_then (λ files. option_and_then (λ floor.
+    option_map (Prove files.0 files.1 floor) (timed_conflicts_in words)) (floor_in words))
     (two_files (arguments_of words))
     else None
 
@@ -523,7 +531,7 @@ HasTeams (SolveFrom instance solution budgets) = Unit {0}
 HasTeams (Patterns instance conflicts) = Unit {0}
 HasTeams (Explain instance conflicts) = Unit {0}
 HasTeams (Part instance members) = Unit {0}
-HasTeams (Prove instance solution conflicts) = Unit {0}
+HasTeams (Prove instance solution floor conflicts) = Unit {0}
 HasTeams (Bound instance log) = Unit {0}
 HasTeams (Resume instance solution k conflicts) = Unit {0}
 HasTeams (ResumeNear instance solution k budgets) = Unit {0}
@@ -555,7 +563,7 @@ NeedsNoFile (Some (SolveFrom instance solution budgets)) = ⊥
 NeedsNoFile (Some (Patterns instance conflicts)) = ⊥
 NeedsNoFile (Some (Explain instance conflicts)) = ⊥
 NeedsNoFile (Some (Part instance members)) = ⊥
-NeedsNoFile (Some (Prove instance solution conflicts)) = ⊥
+NeedsNoFile (Some (Prove instance solution floor conflicts)) = ⊥
 NeedsNoFile (Some (Bound instance log)) = ⊥
 NeedsNoFile (Some (Resume instance solution k conflicts)) = ⊥
 NeedsNoFile (Some (ResumeNear instance solution k budgets)) = ⊥

@@ -2,7 +2,7 @@
 ghost use Rattle.std.specs.Prelude.{◌≡◌, map, string_bytes, bytes_eq};
 ghost use Rattle.std.specs.List.{list_any};
 ghost use Rattle.command_line.specs.Words as options;
-ghost use Rattle.command_line.specs.Words.{has_options, log_options, row_options, show_options};
+ghost use Rattle.command_line.specs.Words.{has_options, log_options, prove_options, row_options, show_options};
 ghost use Rattle.command_line.specs.Words.{search_options, solve_options, start_options, timed_options};
 
 /// Whether each option is one of `solve`, and has a value.
@@ -53,6 +53,19 @@ pub(crate) fn has_timed_options(words: &[String]) -> bool
             is_timed_option(first.as_str()) && has_timed_options(rest)
         }
         [first, rest @ ..] => !has_value(first.as_str()) && has_timed_options(rest),
+        [] => true,
+    }
+}
+
+/// Whether each option is one of `prove`, and has a value.
+pub(crate) fn has_prove_options(words: &[String]) -> bool
+    ensures { result ≡ has_options prove_options (map string_bytes words.now) }
+{
+    match words {
+        [first, _, rest @ ..] if has_value(first.as_str()) => {
+            is_prove_option(first.as_str()) && has_prove_options(rest)
+        }
+        [first, rest @ ..] => !has_value(first.as_str()) && has_prove_options(rest),
         [] => true,
     }
 }
@@ -108,6 +121,13 @@ fn is_timed_option(word: &str) -> bool
     ensures { result ≡ list_any (λ name. bytes_eq word.now name) timed_options }
 {
     word == "--conflicts" || word == "--seconds"
+}
+
+/// Whether a word is the name of an option of `prove`.
+fn is_prove_option(word: &str) -> bool
+    ensures { result ≡ list_any (λ name. bytes_eq word.now name) prove_options }
+{
+    word == "--floor" || is_timed_option(word)
 }
 
 /// Whether a word is the name of an option of `solve`.

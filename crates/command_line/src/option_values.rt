@@ -1,7 +1,7 @@
 //! What the options among words say.
 ghost use Rattle.std.specs.Prelude.{◌≡◌, map, codes, false, None, string_bytes};
 ghost use Rattle.command_line.specs.Words as options;
-ghost use Rattle.command_line.specs.Words.{bound_in, budgets_in, conflicts_in, number_in, said, form_in, most_in};
+ghost use Rattle.command_line.specs.Words.{bound_in, budgets_in, conflicts_in, floor_in, number_in, said, form_in, most_in};
 ghost use Rattle.command_line.specs.Words.{limit_in, room_in, room_limit, small_in, tries_in, seconds_in, time_limit};
 ghost use Rattle.command_line.specs.Words.{timed_conflicts_in, values_of};
 ghost use Rattle.command_line.specs.declared.goal.Goal.TheVariants.{Accepted};
@@ -111,6 +111,13 @@ fn seconds_said(words: &[String]) -> Option<Option<u64>>
     ensures { result ≡ seconds_in (map string_bytes words.now) }
 {
     limit_said(words, "--seconds")
+}
+
+/// The number that no season is to cost less than, if the words say it.
+pub(crate) fn floor_said(words: &[String]) -> Option<Option<u64>>
+    ensures { result ≡ floor_in (map string_bytes words.now) }
+{
+    limit_said(words, "--floor")
 }
 
 /// How many megabytes the steps of a log may take, if the words say it.

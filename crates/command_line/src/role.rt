@@ -41,6 +41,8 @@ pub enum Role {
     Room,
     /// The value of `--bound`.
     Bound,
+    /// The value of `--floor`.
+    Floor,
     /// The value of `--form`.
     Form,
     /// The value of `--most`.
@@ -62,7 +64,8 @@ pub(crate) fn fits(role: Role, word: &str) -> bool
         | Role::Draws
         | Role::Seconds
         | Role::Room
-        | Role::Bound => number(word).is_some(),
+        | Role::Bound
+        | Role::Floor => number(word).is_some(),
         Role::Teams => team_count(word).is_some(),
         Role::Members => is_list(word),
         Role::Conflicts => budget(word).is_some(),
@@ -93,7 +96,8 @@ pub(crate) fn option_role(command: Topic, word: &str) -> Option<Role>
         Topic::Solve => start_option(word),
         Topic::Trial | Topic::Resume => solve_option(word),
         Topic::Patterns => search_option(word),
-        Topic::Explain | Topic::Prove => timed_option(word),
+        Topic::Explain => timed_option(word),
+        Topic::Prove => prove_option(word),
         Topic::Rows => row_option(word),
         Topic::Show => show_option(word),
         Topic::Check | Topic::Bound | Topic::Audit => log_option(word),
@@ -119,6 +123,16 @@ fn timed_option(word: &str) -> Option<Role>
         "--conflicts" => Some(Role::Conflicts),
         "--seconds" => Some(Role::Seconds),
         _ => None,
+    }
+}
+
+/// What the value of an option of `prove` is to be.
+fn prove_option(word: &str) -> Option<Role>
+    ensures { result ≡ faults.prove_option word.now }
+{
+    match word {
+        "--floor" => Some(Role::Floor),
+        _ => timed_option(word),
     }
 }
 

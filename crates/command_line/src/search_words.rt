@@ -9,9 +9,12 @@ ghost use Rattle.command_line.specs.SeenWords.{command_of};
 
 use crate::arguments::{files_and_number, near_files_and_number, one_file, one_number, two_files};
 use crate::option_names::{
-    has_search_options, has_solve_options, has_start_options, has_timed_options, has_value,
+    has_prove_options, has_search_options, has_solve_options, has_start_options, has_timed_options,
+    has_value,
 };
-use crate::option_values::{Standing, budgets, conflicts_said, timed_conflicts_said, value_of};
+use crate::option_values::{
+    Standing, budgets, conflicts_said, floor_said, timed_conflicts_said, value_of,
+};
 use crate::values::{is_name, team_count};
 use crate::words::Words;
 use robin_watch::Budgets;
@@ -94,14 +97,16 @@ pub(crate) fn read_prove(words: &[String]) -> Option<Words<'_>>
     ensures reading { option_map command_of result ≡ proving (map string_bytes words.now) }
     ensures teams { IfSome result (λ command. HasTeams (command_of command)) }
 {
-    if !has_timed_options(words) {
+    if !has_prove_options(words) {
         return None;
     }
     let (instance, solution) = two_files(words)?;
+    let floor = floor_said(words)?;
     let conflicts = timed_conflicts_said(words)?;
     Some(Words::Prove {
         instance,
         solution,
+        floor,
         conflicts,
     })
 }

@@ -77,10 +77,12 @@ pub enum Words<'a> {
         list: &'a str,
     },
     /// Search a schedule of the league of an instance file that is better than the accepted one of a solution file, or
-    /// a certificate that none is. The search may learn so many clauses, or any number of them.
+    /// a certificate that none is; with a floor one that costs less than this number, or a certificate that none does.
+    /// The search may learn so many clauses, or any number of them.
     Prove {
         instance: &'a str,
         solution: &'a str,
+        floor: Option<u64>,
         conflicts: Option<u64>,
     },
     /// Check the certificate of one file that no schedule that the league of an instance file accepts is better than

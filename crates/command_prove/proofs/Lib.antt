@@ -6,5 +6,8 @@ pub mod CheckLemmas
 mod ShownLemmas
 mod ProveStages
 pub mod ProveAnswers
+-- The same where a floor is asked for:
+mod FloorLemmas
+pub mod FloorAnswers
 -- Worked examples, so that a wrong definition does not check:
 pub mod BoundAnswerFacts

@@ -1,85 +1,86 @@
 -- How the stages of `prove` make an answer.
-use Rattle.std.proofs.Common.{◌≡◌, ℕ, ◌+◌, ◌<◌, ◌≤◌, List, length, Option, Ok, codes, inl, inr, subst, sym}
+use Rattle.std.proofs.Common.{◌≡◌, ℕ, ◌+◌, ◌<◌, ◌≤◌, List, length, Ok, codes, inl, inr, subst, sym}
 use Rattle.robin_io.specs.Outside.{Store}
 use Rattle.league.specs.Instance.{Instance}
+use Rattle.league.specs.declared.game.Game.{Game}
 use Rattle.robinx_tags.specs.Pieces.{pieces}
 use Rattle.robinx_form.specs.InstanceFile.{instance_of}
 use Rattle.robinx_form.specs.SolutionFile.{solution_of}
 use Rattle.robinx_read.specs.declared.instance.TheConstants.{INSTANCE_LIMIT, SOLUTION_LIMIT}
 use Rattle.answers.specs.Reply.{Answer, too_large}
 use Rattle.answers.specs.SeenReply.{IsMalformed}
-use Rattle.answers.specs.Stages.{IsFile, IsUnread, says, takes}
+use Rattle.answers.specs.Stages.{IsFile, IsUnread, Outcome, says, takes}
 use Rattle.answers.proofs.StageLemmas.{says-value}
 use Rattle.bound_rows.specs.BoundRows.{bound_size}
 use Rattle.command_prove.specs.Bound.{has_few_terms}
-use Rattle.command_prove.specs.Prove.{IsShownBy, proved}
+use Rattle.command_prove.specs.Prove.{proved}
 use Rattle.encoding.specs.Limit.{most_terms}
 
 -- the stages behind the instance file, whose bytes were so many
-abbrev pub solution_stages : Store → List ℕ → (Option ℕ → Type 0) → Type 0 → ℕ → Instance → Answer → Type 0
-solution_stages store solution limits may_stop front league =
+abbrev pub solution_stages : Store → List ℕ → (Instance → List Game → Outcome) → ℕ → Instance → Answer → Type 0
+solution_stages store solution shown front league =
     has_few_terms league (λ few. takes (codes "solution") (store.contents solution) SOLUTION_LIMIT
     (store.took_more (front + SOLUTION_LIMIT)) (store.failed solution)
-    (λ bytes. says (codes "solution") (solution_of league.n (pieces bytes)) (IsShownBy league limits may_stop)))
+    (λ bytes. says (codes "solution") (solution_of league.n (pieces bytes)) (shown league)))
 
 -- the instance file is read and says a league: what comes then is the answer
 after-league : (store : Store)
-    (instance solution : List ℕ) (limits : Option ℕ → Type 0) (may_stop : Type 0) (first : List ℕ) (league : Instance)
+    (instance solution : List ℕ) (shown : Instance → List Game → Outcome) (first : List ℕ) (league : Instance)
     → IsFile (store.contents instance) INSTANCE_LIMIT first → instance_of (pieces first) ≡ Ok league → (answer : Answer)
-    → solution_stages store solution limits may_stop (length first) league answer
-    → proved store instance solution limits may_stop answer
-after-league store instance solution limits may_stop first league is_first says_league answer rest =
+    → solution_stages store solution shown (length first) league answer
+    → proved store instance solution shown answer
+after-league store instance solution shown first league is_first says_league answer rest =
     inl (
       first,
       is_first,
       says-value (codes "instance") (instance_of (pieces first)) league
-          (solution_stages store solution limits may_stop (length first)) answer says_league rest,
+          (solution_stages store solution shown (length first)) answer says_league rest,
     )
 
 -- the bound rows of the league have too many terms
 pub proved-large : (store : Store)
-    (instance solution : List ℕ) (limits : Option ℕ → Type 0) (may_stop : Type 0) (first : List ℕ) (league : Instance)
+    (instance solution : List ℕ) (shown : Instance → List Game → Outcome) (first : List ℕ) (league : Instance)
     → IsFile (store.contents instance) INSTANCE_LIMIT first → instance_of (pieces first) ≡ Ok league → (answer : Answer)
     → (most_terms < bound_size league) × (answer ≡ too_large (bound_size league))
-    → proved store instance solution limits may_stop answer
-proved-large store instance solution limits may_stop first league is_first says_league answer large =
-    after-league store instance solution limits may_stop first league is_first says_league answer
+    → proved store instance solution shown answer
+proved-large store instance solution shown first league is_first says_league answer large =
+    after-league store instance solution shown first league is_first says_league answer
     (inr large)
 
 -- the solution isn't read
 pub proved-unread : (store : Store)
-    (instance solution : List ℕ) (limits : Option ℕ → Type 0) (may_stop : Type 0) (first : List ℕ) (league : Instance)
+    (instance solution : List ℕ) (shown : Instance → List Game → Outcome) (first : List ℕ) (league : Instance)
     → IsFile (store.contents instance) INSTANCE_LIMIT first → instance_of (pieces first) ≡ Ok league
     → bound_size league ≤ most_terms → (answer : Answer)
     → IsUnread (codes "solution") (store.contents solution) SOLUTION_LIMIT (store.took_more (length first + SOLUTION_LIMIT))
-    (store.failed solution) answer → proved store instance solution limits may_stop answer
-proved-unread store instance solution limits may_stop first league is_first says_league small answer
+    (store.failed solution) answer → proved store instance solution shown answer
+proved-unread store instance solution shown first league is_first says_league small answer
     unread =
-    after-league store instance solution limits may_stop first league is_first says_league answer
+    after-league store instance solution shown first league is_first says_league answer
     (inl (small, inr unread))
 
 -- the solution is read: the rest is the answer to what it says
 pub proved-last : (store : Store)
-    (instance solution : List ℕ) (limits : Option ℕ → Type 0) (may_stop : Type 0) (first second : List ℕ)
+    (instance solution : List ℕ) (shown : Instance → List Game → Outcome) (first second : List ℕ)
     (league : Instance)
     → IsFile (store.contents instance) INSTANCE_LIMIT first → instance_of (pieces first) ≡ Ok league
     → bound_size league ≤ most_terms → IsFile (store.contents solution) SOLUTION_LIMIT second → (answer : Answer)
-    → says (codes "solution") (solution_of league.n (pieces second)) (IsShownBy league limits may_stop) answer
-    → proved store instance solution limits may_stop answer
-proved-last store instance solution limits may_stop first second league is_first says_league small
+    → says (codes "solution") (solution_of league.n (pieces second)) (shown league) answer
+    → proved store instance solution shown answer
+proved-last store instance solution shown first second league is_first says_league small
     is_second answer last =
-    after-league store instance solution limits may_stop first league is_first says_league answer
+    after-league store instance solution shown first league is_first says_league answer
     (inl (small, inl (second, is_second, last)))
 
 -- the solution has a fault of form
 pub proved-malformed : (store : Store)
-    (instance solution : List ℕ) (limits : Option ℕ → Type 0) (may_stop : Type 0) (first second : List ℕ)
+    (instance solution : List ℕ) (shown : Instance → List Game → Outcome) (first second : List ℕ)
     (league : Instance)
     → IsFile (store.contents instance) INSTANCE_LIMIT first → instance_of (pieces first) ≡ Ok league
     → bound_size league ≤ most_terms → IsFile (store.contents solution) SOLUTION_LIMIT second → (answer : Answer)
     → IsMalformed (codes "solution") (solution_of league.n (pieces second)) answer
-    → proved store instance solution limits may_stop answer
-proved-malformed store instance solution limits may_stop first second league is_first says_league small is_second answer
+    → proved store instance solution shown answer
+proved-malformed store instance solution shown first second league is_first says_league small is_second answer
     (fault, said, is) =
-    proved-last store instance solution limits may_stop first second league is_first says_league small is_second answer
-    (subst (λ r. says (codes "solution") r (IsShownBy league limits may_stop) answer) (sym said) is)
+    proved-last store instance solution shown first second league is_first says_league small is_second answer
+    (subst (λ r. says (codes "solution") r (shown league) answer) (sym said) is)

@@ -1,5 +1,5 @@
 -- What is shown of a schedule, answered.
-use Rattle.std.proofs.Common.{◌≡◌, ℕ, ◌-◌, ◌<◌, ◌≤◌, ◌==◌, Bool, true, false, if◌then◌else◌, List, Option, Some}
+use Rattle.std.proofs.Common.{◌≡◌, ℕ, ◌-◌, ◌<◌, ◌≤◌, ◌==◌, Bool, true, false, if◌then◌else◌, List, Option, None, Some}
 use Rattle.std.proofs.Common.{Result, Ok, Err, refl, arith, ap, subst, sym, ◌∙◌, inl, inr}
 use Rattle.std.specs.Prelude.{IfOk, IsTrue}
 use Rattle.std.proofs.lemmas.Bool.Decides.{nat_tests}
@@ -37,7 +37,8 @@ use Rattle.command_validate.specs.Validate.{IsJudgement}
 use Rattle.command_prove.specs.Bound.{bound_verdict}
 use Rattle.floors.specs.Floors.{IsFloor}
 use Rattle.floors.specs.declared.floor.Floor.{Floor}
-use Rattle.command_prove.specs.Prove.{IsCertified, IsShown, IsShownBy, spent_text}
+use Rattle.command_prove.specs.Floor.{IsShownWith}
+use Rattle.command_prove.specs.Prove.{IsCertified, IsRejected, IsShown, IsShownBy, spent_text}
 use Rattle.command_prove.specs.Told.{CanBeWritten, Tells, TellsBeside, TellsFloored, TellsLeast}
 
 -- ---- what a test says
@@ -52,14 +53,19 @@ rejected-status : (feasible : Bool) (status : Status) → (IsTrue feasible → �
 rejected-status true status fails is = absurd (fails refl)
 rejected-status false status fails is = is
 
-pub shown-rejected : {may_stop : Type 0} (league : Instance) (conflicts : Option ℕ) (games : List Game)
-    (answer : Answer)
-    → (IsAccepted league (counts_of games) → ⊥) → IsJudgement league games answer
-    → IsShown league conflicts may_stop games answer
-shown-rejected league conflicts games answer fails judged = inl (record {
+rejected-judged : (league : Instance) (games : List Game) (answer : Answer) → (IsAccepted league (counts_of games) → ⊥)
+    → IsJudgement league games answer → IsRejected league games answer
+rejected-judged league games answer fails judged = record {
   judgement = judged;
   status = rejected-status judged.feasible answer.status (λ is. fails (judged.accepted.0 is)) judged.status;
-})
+}
+
+-- whatever is asked for
+rejected-with : (league : Instance) (floor : Option ℕ) (limits : Option ℕ → Type 0) (may_stop : Type 0)
+    (conflicts : Option ℕ) (games : List Game) (answer : Answer) → limits conflicts → IsRejected league games answer
+    → IsShownWith floor limits may_stop league games answer
+rejected-with league None limits may_stop conflicts games answer is rejected = (conflicts, is, inl rejected)
+rejected-with league (Some asked) limits may_stop conflicts games answer is rejected = (conflicts, is, inl rejected)
 
 -- ---- one that is
 
@@ -80,20 +86,24 @@ abbrev certificate_said : List Step → ℕ → Result Certificate Fault
 certificate_said log cost = Ok (record { bound = cost; log = log })
 
 -- what is found of a floor, by the verdict of `bound`
-floor-verdict : (league : Instance) (floor : Floor) (test : Bool) → (floor.bound == 0) ≡ test → IsFloor league floor
+floor-verdict_by : (league : Instance) (floor : Floor) (test : Bool) → (floor.bound == 0) ≡ test → IsFloor league floor
     → (if test then Accepted else verdict_of (bound_rows league (floor.bound - 1)) (bound_vars league) floor.log)
     ≡ Accepted
-floor-verdict league floor true is found = refl
-floor-verdict league floor false is found =
+floor-verdict_by league floor true is found = refl
+floor-verdict_by league floor false is found =
     let some : 1 ≤ floor.bound = grind (arith, nat_tests) in
     found.accepted some
 
-floor-certified : (league : Instance) (floor : Floor) → IsFloor league floor
+pub floor-verdict : (league : Instance) (floor : Floor) → IsFloor league floor
+    → bound_verdict league floor.bound floor.log ≡ Accepted
+floor-verdict league floor found = floor-verdict_by league floor (floor.bound == 0) refl found
+
+pub floor-certified : (league : Instance) (floor : Floor) → IsFloor league floor
     → certificate_of (certificate_text floor.bound floor.log)
     ≡ Ok (record { bound = floor.bound; log = floor.log }) → IsCertified league floor.bound floor.log
 floor-certified league floor found reads_back = record {
   least = found.least;
-  proves = floor-verdict league floor (floor.bound == 0) refl found;
+  proves = floor-verdict league floor found;
   reads_back = reads_back;
 }
 
@@ -214,13 +224,15 @@ pub told-better : {E : Type 0} (objective : ℕ) (games : List Game) (result : R
 told-better {E} objective games (Ok reply) status text = (status, text)
 told-better {E} objective games (Err error) status text = tt
 
-pub replied-rejected : {E : Type 0} (league : Instance) (conflicts : Option ℕ) (may_stop : Type 0)
-    (games : List Game) (result : Result Reply E) → (IsAccepted league (counts_of games) → ⊥)
+pub replied-rejected : {E : Type 0} (league : Instance) (floor : Option ℕ) (limits : Option ℕ → Type 0)
+    (may_stop : Type 0) (conflicts : Option ℕ) (games : List Game) (result : Result Reply E) → limits conflicts
+    → (IsAccepted league (counts_of games) → ⊥)
     → IfOk result (λ reply. IsJudgement league games (answer_of reply))
-    → IfOk result (λ reply. IsShown league conflicts may_stop games (answer_of reply))
-replied-rejected {E} league conflicts may_stop games (Ok reply) fails judged =
-    shown-rejected league conflicts games (answer_of reply) fails judged
-replied-rejected {E} league conflicts may_stop games (Err error) fails judged = tt
+    → IfOk result (λ reply. IsShownWith floor limits may_stop league games (answer_of reply))
+replied-rejected {E} league floor limits may_stop conflicts games (Ok reply) is fails judged =
+    rejected-with league floor limits may_stop conflicts games (answer_of reply) is
+    (rejected-judged league games (answer_of reply) fails judged)
+replied-rejected {E} league floor limits may_stop conflicts games (Err error) is fails judged = tt
 
 pub replied-told : {E : Type 0} (league : Instance) (limit : Option ℕ) (may_stop : Type 0) (games : List Game)
     (costs : ℕ) (proved : Proved) (result : Result Reply E) → costs ≡ objective league (counts_of games)

@@ -136,15 +136,15 @@ IsShownBy league limits may_stop games answer =
 
 -- ---- stages
 
--- `prove`, over what a store shows, by a run that may be stopped where `may_stop` says so
-abbrev pub proved : Store → List ℕ → List ℕ → (Option ℕ → Type 0) → Type 0 → Outcome
-proved store instance solution limits may_stop = do
+-- `prove`, over what a store shows, where this is shown of the schedule of a league
+abbrev pub proved : Store → List ℕ → List ℕ → (Instance → List Game → Outcome) → Outcome
+proved store instance solution shown = do
   first ← reads store (codes "instance") instance INSTANCE_LIMIT 0
   league ← says (codes "instance") (instance_of (pieces first))
   few ← has_few_terms league
   second ← reads store (codes "solution") solution SOLUTION_LIMIT (length first)
   games ← says (codes "solution") (solution_of league.n (pieces second))
-  IsShownBy league limits may_stop games
+  shown league games
 
 -- ---- a run
 

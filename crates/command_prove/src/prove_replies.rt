@@ -37,7 +37,11 @@ fn least_reply(alloc: Global, objective: u64, log: &Log) -> Result<Reply, AllocE
 }
 
 /// A better schedule, with its objective.
-fn better_reply(alloc: Global, schedule: &Schedule, objective: u64) -> Result<Reply, AllocError>
+pub(crate) fn better_reply(
+    alloc: Global,
+    schedule: &Schedule,
+    objective: u64,
+) -> Result<Reply, AllocError>
     ensures status { IfOk result (λ reply. (answer_of reply).status ≡ statuses.Better) }
     ensures text { IfOk result (λ reply. (answer_of reply).text
         ≡ solutions.solution_text schedule.now (Some (0, objective))) }
@@ -50,7 +54,12 @@ fn better_reply(alloc: Global, schedule: &Schedule, objective: u64) -> Result<Re
 }
 
 /// A schedule's objective, a certificate of a floor, and a log that is spent.
-fn spent_reply(alloc: Global, cost: u128, floor: &Floor, log: &Log) -> Result<Reply, AllocError>
+pub(crate) fn spent_reply(
+    alloc: Global,
+    cost: u128,
+    floor: &Floor,
+    log: &Log,
+) -> Result<Reply, AllocError>
     requires named { All NamesRows floor.now.log }
     requires short { HasShortLines floor.now.log }
     requires nothing { floor.now.bound ≡ 0 → floor.now.log ≡ [] }

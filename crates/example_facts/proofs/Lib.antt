@@ -49,6 +49,7 @@ mod LeastExamples
 mod BetterExamples
 -- What `prove` answers, and what is written:
 mod ProveExamples
+mod FloorExamples
 -- What `bound` answers, and what a run of either says:
 mod CertificateExamples
 -- What the other commands answer:

@@ -58,7 +58,7 @@ twice = game 0 1 0 ∷ game 0 1 1 ∷ []
 is_above : (k : ℕ) → k + 1 ≡ 0 → ⊥
 is_above k h = omega arith
 
-refused : IsAccepted even_soon (counts_of twice) → ⊥
+pub refused : IsAccepted even_soon (counts_of twice) → ⊥
 refused h = is_above 1 h.round_robin.pairs
 
 false_true : false ≡ true → ⊥
@@ -151,7 +151,7 @@ least-misstated conflicts is =
     five_four 53 refl (ap (λ (text : List ℕ). get_or text 6 0) is.text ∙ stated-four is.steps)
 
 -- an answer of another status is none, nor is one of a schedule that isn't accepted
-spent_yes : Spent ≡ Yes → ⊥
+pub spent_yes : Spent ≡ Yes → ⊥
 spent_yes is = cc
 
 pub least-status : (conflicts : Option ℕ) (text : List ℕ)
@@ -192,7 +192,7 @@ by_floor-none = record {
 }
 
 -- a budget that is spent is one that was set
-no_budget : (steps : List Step) → ◌≡◌ {A = Option ℕ} None (Some (length steps)) → ⊥
+pub no_budget : (steps : List Step) → ◌≡◌ {A = Option ℕ} None (Some (length steps)) → ⊥
 no_budget steps is = cc
 
 pub by_floor-never : (league : Instance) (games : List Game) (answer : Answer)
@@ -234,7 +234,7 @@ bettered-zero = record {
   reads_back = better-read;
 }
 
-nothing_below : (n : ℕ) → n < 0 → ⊥
+pub nothing_below : (n : ℕ) → n < 0 → ⊥
 nothing_below n less = omega (arith, less)
 
 pub bettered-none : (answer : Answer) → IsBettered away_first one_first answer → ⊥
@@ -253,12 +253,12 @@ bettered-nothing is =
 abbrev pub spent : Answer
 spent = record { status = Spent; text = codes "objective 4\nbound 0\nrefutation 1\nend\n" }
 
-spent-read : log_of (codes "refutation 1\nend\n") ≡ Ok []
+pub spent-read : log_of (codes "refutation 1\nend\n") ≡ Ok []
 unfolding lines_from
 spent-read = refl
 
 -- that no schedule costs less than 0 needs no log
-floor-none : IsCertified even_soon 0 []
+pub floor-none : IsCertified even_soon 0 []
 unfolding digits
 floor-none = record { least = λ m accepted. omega arith; proves = refl; reads_back = refl }
 

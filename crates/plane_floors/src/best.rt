@@ -15,8 +15,8 @@ const MOST_TERMS: u64 = 200_000;
 /// A search learns at most so many rows.
 const MOST_ROWS: u64 = 100_000;
 
-/// A floor of a league of which a season costs so much: the one that laws give, or that cost itself, where a search by
-/// cutting planes proves that no season costs less. The search learns at most as many rows as the conflicts allow, and no
+/// A floor of a league: the one that laws give, or the number that is sought where a search by cutting planes proves that
+/// no season costs less. The search learns at most as many rows as the conflicts allow, and no
 /// more than 100,000. Where these allow none, or the bound rows have more than 200,000 terms, there is no search. `terms`
 /// is how many they have, as `bound_terms` of `bound_rows` counts them. How large the floor is isn't promised.
 ///
@@ -25,7 +25,7 @@ const MOST_ROWS: u64 = 100_000;
 pub fn best_floor<W: Watch>(
     alloc: Global,
     league: &League,
-    cost: u128,
+    sought: u128,
     terms: u64,
     conflicts: Option<u64>,
     watch: &W,
@@ -35,10 +35,10 @@ pub fn best_floor<W: Watch>(
 {
     let floor = floor_of(alloc, league, terms)?;
     let limit = conflicts.unwrap_or(MOST_ROWS).min(MOST_ROWS);
-    if cost <= u128::from(floor.bound) || terms > MOST_TERMS || limit == 0 {
+    if sought <= u128::from(floor.bound) || terms > MOST_TERMS || limit == 0 {
         return Ok(floor);
     }
-    let Ok(bound) = u64::try_from(cost) else {
+    let Ok(bound) = u64::try_from(sought) else {
         return Ok(floor);
     };
     let found = plane_floor(alloc, league, bound, terms, limit, watch)?;

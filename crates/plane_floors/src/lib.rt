@@ -1,5 +1,5 @@
 //! Floors of leagues that are searched by cutting planes: that no schedule costs less than a number, with a log that
-//! proves it. The law of the fewest breaks gives the rows with which the search begins.
+//! proves it. Venues and the law of the fewest breaks give the rows with which the search begins.
 #![tactic(auto)]
 
 mod best;

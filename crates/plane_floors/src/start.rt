@@ -1,17 +1,19 @@
-//! With what the search begins: in each half of the season all teams but two have a break at least.
+//! With what the search begins: in each half of the season all teams but two have a break at least, and a team that is at
+//! home in a slot has no away game there.
 ghost use Rattle.std.specs.Prelude.{◌≡◌, ◌+◌, ◌<◌, ◌≤◌, IfOk};
 ghost use Rattle.std.specs.List.{All};
 
 use bound_rows::needs_breaks;
 use break_counts::{Frame, Stretch, Writer, add_clique};
-use encoding_base::{ab_at, hb_at};
+use encoding_base::{ab_at, h_at, hb_at, x_at};
 use league::League;
 use planes::{Derived, Start};
 use refutation::Part;
 use rows::Lit;
 use std::alloc::{AllocError, Global};
 
-/// The steps of the law of the fewest breaks behind so many rows, and its rows, where breaks have variables.
+/// The steps of the venues and of the law of the fewest breaks behind so many rows, and their rows, where breaks have
+/// variables.
 ///
 /// # Errors
 /// Only where memory runs out.
@@ -19,6 +21,7 @@ pub(crate) fn start_of(alloc: Global, league: &League, rows: u64) -> Result<Star
     let mut writer = Writer::new(alloc, rows);
     let mut derived = Vec::new(alloc);
     if needs_breaks(league.constraints()) {
+        add_venues(alloc, &mut writer, Frame::new(league), &mut derived)?;
         add_laws(alloc, league, &mut writer, &mut derived)?;
     }
     Ok(Start {
@@ -86,6 +89,50 @@ fn law_of(
     Ok(Derived {
         lits,
         degree: u64::from(frame.n).saturating_sub(2),
+        number,
+    })
+}
+
+/// Writes of each team and slot that at most one is true of the home venue and the away games there.
+fn add_venues(
+    alloc: Global,
+    writer: &mut Writer,
+    frame: Frame,
+    derived: &mut Vec<Derived>,
+) -> Result<(), AllocError> {
+    for team in 0..frame.n {
+        for slot in 0..frame.slots {
+            let row = venue_of(alloc, writer, frame, team, slot)?;
+            derived.push(row)?;
+        }
+    }
+    Ok(())
+}
+
+/// Writes it of a team and a slot: the sum of the rows that ask for a home game at a home venue, and for one game at most.
+fn venue_of(
+    alloc: Global,
+    writer: &mut Writer,
+    frame: Frame,
+    team: u16,
+    slot: u16,
+) -> Result<Derived, AllocError>
+    requires team { team < frame.n }
+    requires slot { slot < frame.slots }
+{
+    let rows = [frame.venue(team, slot), frame.one_game(team, slot)];
+    let parts = rows.map(|row| Part { factor: 1, row });
+    let number = writer.sum(&parts, 1)?;
+    let mut lits = Vec::new(alloc);
+    lits.push(Lit::new(h_at(frame.n, team, slot), false))?;
+    for home in 0..frame.n {
+        if home != team {
+            lits.push(Lit::new(x_at(frame.n, home, team, slot), false))?;
+        }
+    }
+    Ok(Derived {
+        lits,
+        degree: u64::from(frame.n).saturating_sub(1),
         number,
     })
 }

@@ -1,7 +1,7 @@
 //! The text of help, a page for each command, and the version: the one table of them.
 
 /// What `--version` prints.
-pub const VERSION: &str = "robin 3.0.3\n";
+pub const VERSION: &str = "robin 3.1.0\n";
 
 /// What `--help` prints: all commands with their words, the options and the statuses.
 pub const ALL: &str = "\
@@ -48,6 +48,7 @@ Options stand before, between or behind the words, each once at most:
   --room N           a log's steps take N megabytes at most; of check, bound
                      and audit
   --bound B          seasons that cost at most B; of rows
+  --floor B          that no season costs less than B; of prove
   --objective        a season that costs least; of rows, and not with --bound
   --form text|csv    a text, or values for a spreadsheet (text); of show
   --most N|all       lines of a list (20); of show
@@ -251,19 +252,23 @@ Example: robin check league.xml found.log
 ";
 
 pub const PROVE: &str = "\
-usage: robin prove INSTANCE SOLUTION [--conflicts N|all] [--seconds N]
+usage: robin prove INSTANCE SOLUTION [--floor B] [--conflicts N|all]
+                   [--seconds N]
 
 Finds a season of the league of the file INSTANCE that costs less than the
 season of the file SOLUTION, or writes a certificate that none does.
 
 Options stand before, between or behind the files, each once at most:
+  --floor B      finds a season that costs less than B, or proves that none
+                 does; above the cost of SOLUTION the same as that cost
   --conflicts N  the search learns at most N clauses (2000), a number from 0 to
                  18446744073709551615; all in place of N: any number
   --seconds N    after N seconds the search ends, as if its budget were spent
 Where ./robin started it, Ctrl-C ends it as a time limit does; Ctrl-\\ ends it
 at once.
 
-Status:  0  no accepted season costs less: the certificate proves it
+Status:  0  no accepted season costs less: the certificate proves it; with
+            --floor the season's objective stands before it
          1  the season isn't accepted, and the report says why
          3  a file is refused, or the league is too large
          5  the budget is spent: the season's objective, the certificate of

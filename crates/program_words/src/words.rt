@@ -143,6 +143,7 @@ fn wanted(role: Role) -> &'static str {
         Role::Seconds => "--seconds takes a number from 0 to 18446744073709551615",
         Role::Room => "--room takes a number of megabytes from 0 to 18446744073709551615",
         Role::Bound => "--bound takes a number from 0 to 18446744073709551615",
+        Role::Floor => "--floor takes a number from 0 to 18446744073709551615",
         Role::Form => "--form takes text or csv",
         Role::Most => "--most takes a number from 0 to 4294967295, or all",
         Role::Width => "--width takes a number from 0 to 4294967295",

@@ -1,5 +1,5 @@
 -- What `prove` and `bound` promise is kept.
-use Rattle.std.proofs.Common.{◌∷◌, [], ◌≡◌, ◌⊎◌, ℕ, ◌+◌, List, ◌++◌, length, decimal, Option, Some, Result, Ok, Err, codes, ap, inl}
+use Rattle.std.proofs.Common.{◌∷◌, [], ◌≡◌, ◌⊎◌, ℕ, ◌+◌, List, ◌++◌, length, decimal, Option, None, Some, Result, Ok, Err, codes, ap, inl}
 use Rattle.std.proofs.Common.{inr, refl, sym, subst, ◌∙◌}
 use Rattle.std.specs.Io.KnownBytes.{Appends}
 use Rattle.std.specs.Prelude.{IfSome}
@@ -25,13 +25,15 @@ use Rattle.bounds.specs.declared.certificate.Certificate.{Certificate}
 use Rattle.command_prove.specs.Bound.{IsBoundVerdict, IsWellFormedCertificate, IsWithinRoom, bound_answer, bound_verdict}
 use Rattle.command_prove.specs.Bound.{bounded, has_few_terms, says_certificate}
 use Rattle.command_prove.proofs.BoundAnswers.{bounded-known, bounded-well_formed}
+use Rattle.command_prove.specs.Floor.{IsShownWith}
 use Rattle.command_prove.specs.Prove as proving
 use Rattle.command_prove.specs.Prove.{IsLeast, IsLeastByFloor, IsShownBy, proved}
 use Rattle.command_prove.proofs.ProveAnswers.{ShowsAs, proved-known, proved-well_formed}
 use Rattle.command_resume.specs.Seasons.{SaySeason}
 use Rattle.robin_run.specs.Bound.{Bounds, IsCertified}
-use Rattle.robin_run.specs.Prove.{IsBettered, IsFloored, IsUnbettered, Proves}
+use Rattle.robin_run.specs.Prove.{IsBettered, IsFloored, IsUnbettered, Promise, Proves}
 use Rattle.robin_run.specs.Run.{Answered, Run}
+use Rattle.robin_run.proofs.FloorLemmas.{shows-floor}
 use Rattle.robin_run.proofs.RunLemmas.{writes, writes-as}
 
 -- ---- `prove`
@@ -83,35 +85,39 @@ floored league conflicts games answer output shown written = record {
 -- what an answer shows of the games of two files, by its status
 shown-by : (run : Run) (instance solution : List ℕ) (conflicts : Option ℕ) (league : Instance) (games : List Game)
     (answer : Answer) → SaySeason run.store instance solution league games
-    → proved run.store instance solution (IsKeptTo conflicts run.may_stop) run.may_stop answer
+    → proved run.store instance solution (IsShownWith None (IsKeptTo conflicts run.may_stop) run.may_stop) answer
     → ShowsAs league (IsKeptTo conflicts run.may_stop) run.may_stop games answer
 shown-by run instance solution conflicts league games answer say given =
     proved-known run.store instance solution say.first say.second league games (IsKeptTo conflicts run.may_stop)
     run.may_stop answer say.first_known say.second_known say.says_league say.says_played given
 
-pub proves : (run : Run) → Answered run → Proves run
-proves run answered instance solution conflicts is = record {
+shows-season : (run : Run) → Answered run → (instance solution : List ℕ) (conflicts : Option ℕ)
+    → run.command ≡ Some (Prove instance solution None conflicts) → Promise run instance solution conflicts
+shows-season run answered instance solution conflicts is = record {
   proved = λ league games good works.
-      writes run (instance ∷ solution ∷ []) (Prove instance solution conflicts)
+      writes run (instance ∷ solution ∷ []) (Prove instance solution None conflicts)
       (IsShownBy league (IsKeptTo conflicts run.may_stop) run.may_stop games) answered is works
-      (λ answer given. proved-well_formed run.store instance solution league games (IsKeptTo conflicts run.may_stop)
-      run.may_stop answer good works.store given);
+      (λ answer given. proved-well_formed run.store instance solution league games
+      (IsShownWith None (IsKeptTo conflicts run.may_stop) run.may_stop) answer good works.store given);
   unbettered = λ league games say ended.
-      let whole = writes-as run (Prove instance solution conflicts) Yes answered is ended (λ same. cc) (λ same. cc) in
+      let whole = writes-as run (Prove instance solution None conflicts) Yes answered is ended (λ same. cc) (λ same. cc) in
       let shown = (shown-by run instance solution conflicts league games whole.answer say whole.given).least
       whole.status_is in
       unbettered league shown.0 games whole.answer run.output shown.1 whole.written;
   bettered = λ league games say ended.
-      let whole = writes-as run (Prove instance solution conflicts) Better answered is ended (λ same. cc) (λ same. cc) in
+      let whole = writes-as run (Prove instance solution None conflicts) Better answered is ended (λ same. cc) (λ same. cc) in
       bettered league games whole.answer run.output
       ((shown-by run instance solution conflicts league games whole.answer say whole.given).better whole.status_is)
       whole.written;
   floored = λ league games say ended.
-      let whole = writes-as run (Prove instance solution conflicts) Spent answered is ended (λ same. cc) (λ same. cc) in
+      let whole = writes-as run (Prove instance solution None conflicts) Spent answered is ended (λ same. cc) (λ same. cc) in
       let shown = (shown-by run instance solution conflicts league games whole.answer say whole.given).spent
       whole.status_is in
       floored league shown.0 games whole.answer run.output shown.1 whole.written;
 }
+
+pub proves : (run : Run) → Answered run → Proves run
+proves run answered = record { season = shows-season run answered; floor = shows-floor run answered }
 
 -- ---- `bound`
 

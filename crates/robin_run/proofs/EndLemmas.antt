@@ -51,7 +51,8 @@ use Rattle.command_explain.specs.Parted.{IsPart, part_answer, parted}
 use Rattle.explain.specs.Parts.{first_unknown}
 use Rattle.command_prove.specs.Bound.{IsBoundVerdict, bound_answer, bound_verdict, bounded, has_few_terms}
 use Rattle.command_prove.specs.Bound.{says_certificate}
-use Rattle.command_prove.specs.Prove.{IsShown, IsShownBy, proved}
+use Rattle.command_prove.specs.Floor.{IsFloorShown, IsShownWith}
+use Rattle.command_prove.specs.Prove.{IsShown, proved}
 use Rattle.command_resume.specs.Audited as auditing
 use Rattle.command_resume.specs.Audited.{audited}
 use Rattle.command_resume.specs.Near as nearing
@@ -355,24 +356,46 @@ shown-ends Ends ends_yes ends_no better spent league conflicts may_stop games an
 shown-ends Ends ends_yes ends_no better spent league conflicts may_stop games answer (inr (inr (inr (inr log)))) =
     ends-with Ends answer Spent log.status spent
 
+-- of a floor that is asked for
+floor-ends : (Ends : Status → Type 0) → Ends Yes → Ends No → Ends Better → Ends Spent → (league : Instance) (asked : ℕ)
+    (conflicts : Option ℕ) (games : List Game) (answer : Answer)
+    → IsFloorShown league asked conflicts games answer → Ends answer.status
+floor-ends Ends ends_yes ends_no better spent league asked conflicts games answer (inl rejected) =
+    ends-with Ends answer No rejected.status ends_no
+floor-ends Ends ends_yes ends_no better spent league asked conflicts games answer (inr (inl reached)) =
+    ends-with Ends answer Yes reached.status ends_yes
+floor-ends Ends ends_yes ends_no better spent league asked conflicts games answer (inr (inr (inl undercut))) =
+    ends-with Ends answer Better undercut.0.status better
+floor-ends Ends ends_yes ends_no better spent league asked conflicts games answer (inr (inr (inr missed))) =
+    ends-with Ends answer Spent missed.status spent
+
+shown_with-ends : (Ends : Status → Type 0) → Ends Yes → Ends No → Ends Better → Ends Spent → (league : Instance)
+    (floor : Option ℕ) (limits : Option ℕ → Type 0) (may_stop : Type 0) (games : List Game) (answer : Answer)
+    → IsShownWith floor limits may_stop league games answer → Ends answer.status
+shown_with-ends Ends ends_yes ends_no better spent league None limits may_stop games answer (conflicts, is, shown) =
+    shown-ends Ends ends_yes ends_no better spent league conflicts may_stop games answer shown
+shown_with-ends Ends ends_yes ends_no better spent league (Some asked) limits may_stop games answer (conflicts, is, shown) =
+    floor-ends Ends ends_yes ends_no better spent league asked conflicts games answer shown
+
 proved-ends : (Ends : Status → Type 0) → Ends File → Ends ReadFault → Ends Yes → Ends No → Ends Better → Ends Spent
     → (store : Store)
-    (instance solution : List ℕ) (limits : Option ℕ → Type 0) (may_stop : Type 0) (answer : Answer)
-    → proved store instance solution limits may_stop answer → Ends answer.status
-proved-ends Ends file fault ends_yes ends_no better spent store instance solution limits may_stop answer
+    (instance solution : List ℕ) (floor : Option ℕ) (limits : Option ℕ → Type 0) (may_stop : Type 0) (answer : Answer)
+    → proved store instance solution (IsShownWith floor limits may_stop) answer → Ends answer.status
+proved-ends Ends file fault ends_yes ends_no better spent store instance solution floor limits may_stop answer
     given =
+    let shown : Instance → List Game → Outcome = IsShownWith floor limits may_stop in
     league-ends Ends file fault (store.contents instance) (store.took_more INSTANCE_LIMIT) (store.failed instance)
     (λ first league. has_few_terms league
     (λ few. takes (codes "solution") (store.contents solution) SOLUTION_LIMIT (store.took_more (length first + SOLUTION_LIMIT))
     (store.failed solution)
-    (λ second. says (codes "solution") (solution_of league.n (pieces second)) (IsShownBy league limits may_stop)))) answer
+    (λ second. says (codes "solution") (solution_of league.n (pieces second)) (shown league)))) answer
     (λ first league at_league. few-ends Ends file league
     (λ few. takes (codes "solution") (store.contents solution) SOLUTION_LIMIT (store.took_more (length first + SOLUTION_LIMIT))
     (store.failed solution)
-    (λ second. says (codes "solution") (solution_of league.n (pieces second)) (IsShownBy league limits may_stop))) answer
+    (λ second. says (codes "solution") (solution_of league.n (pieces second)) (shown league))) answer
     (λ at_few. games-ends Ends file fault league.n (store.contents solution) (store.took_more (length first + SOLUTION_LIMIT))
-    (store.failed solution) (λ second. IsShownBy league limits may_stop) answer
-    (λ second games shown. shown-ends Ends ends_yes ends_no better spent league shown.0 may_stop games answer shown.2)
+    (store.failed solution) (λ second. shown league) answer
+    (λ second games is. shown_with-ends Ends ends_yes ends_no better spent league floor limits may_stop games answer is)
     at_few)
     at_league)
     given
@@ -605,9 +628,9 @@ answer-ends may_stop room (Some (Explain instance conflicts)) store answer given
 answer-ends may_stop room (Some (Part instance members)) store answer given =
     parted-ends (EndsBy (Some (Part instance members))) refl refl refl store instance members answer
     given
-answer-ends may_stop room (Some (Prove instance solution conflicts)) store answer given =
-    proved-ends (EndsBy (Some (Prove instance solution conflicts))) refl refl refl refl refl refl store instance solution
-    (IsKeptTo conflicts may_stop) may_stop answer given
+answer-ends may_stop room (Some (Prove instance solution floor conflicts)) store answer given =
+    proved-ends (EndsBy (Some (Prove instance solution floor conflicts))) refl refl refl refl refl refl store instance
+    solution floor (IsKeptTo conflicts may_stop) may_stop answer given
 answer-ends may_stop room (Some (Bound instance log)) store answer given =
     bounded-ends (EndsBy (Some (Bound instance log))) refl refl refl refl store room instance log answer
     given
@@ -658,7 +681,7 @@ no_memory (Some (SolveFrom instance solution budgets)) = refl
 no_memory (Some (Patterns instance conflicts)) = refl
 no_memory (Some (Explain instance conflicts)) = refl
 no_memory (Some (Part instance members)) = refl
-no_memory (Some (Prove instance solution conflicts)) = refl
+no_memory (Some (Prove instance solution floor conflicts)) = refl
 no_memory (Some (Bound instance log)) = refl
 no_memory (Some (Resume instance solution k conflicts)) = refl
 no_memory (Some (ResumeNear instance solution k budgets)) = refl

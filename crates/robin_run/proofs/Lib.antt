@@ -6,6 +6,7 @@ mod CheckLemmas
 mod SolveLemmas
 mod PatternLemmas
 mod ExplainLemmas
+mod FloorLemmas
 mod BoundLemmas
 mod ResumeLemmas
 mod RowLemmas

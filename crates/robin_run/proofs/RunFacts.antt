@@ -52,11 +52,11 @@ make-one answer h = h.made
 pub ends-words : (may_end None Words ≡ true) × (may_end None Yes ≡ false) × (may_end (Some (Circle 4)) File ≡ false)
 ends-words = (refl, refl, refl)
 
-pub ends-prove : (may_end (Some (Prove (codes "a") (codes "b") None)) Better ≡ true)
-    × (may_end (Some (Prove (codes "a") (codes "b") None)) No ≡ true)
-    × (may_end (Some (Prove (codes "a") (codes "b") None)) Spent ≡ true)
-    × (may_end (Some (Prove (codes "a") (codes "b") None)) Refuted ≡ false)
-    × (may_end (Some (Prove (codes "a") (codes "b") None)) Memory ≡ false)
+pub ends-prove : (may_end (Some (Prove (codes "a") (codes "b") None None)) Better ≡ true)
+    × (may_end (Some (Prove (codes "a") (codes "b") None None)) No ≡ true)
+    × (may_end (Some (Prove (codes "a") (codes "b") None None)) Spent ≡ true)
+    × (may_end (Some (Prove (codes "a") (codes "b") None None)) Refuted ≡ false)
+    × (may_end (Some (Prove (codes "a") (codes "b") None None)) Memory ≡ false)
 ends-prove = (refl, refl, refl, refl, refl)
 
 pub ends-others : (may_end (Some (Bound (codes "a") (codes "b"))) Better ≡ false)

@@ -15,6 +15,7 @@ use Rattle.command_explain.specs.Parted.{parted}
 use Rattle.program_words.specs.Help.{help_answer, version_answer}
 use Rattle.command_solve.specs.MadeInstance.{IsMade}
 use Rattle.command_solve.specs.Patterns.{patterned}
+use Rattle.command_prove.specs.Floor.{IsShownWith}
 use Rattle.command_prove.specs.Prove.{proved}
 use Rattle.command_resume.specs.Audited.{audited}
 use Rattle.command_resume.specs.Near.{neared}
@@ -45,8 +46,8 @@ IsAnswer may_stop room (Some (SolveFrom instance solution budgets)) store answer
 IsAnswer may_stop room (Some (Patterns instance conflicts)) store answer = patterned store instance conflicts answer
 IsAnswer may_stop room (Some (Explain instance conflicts)) store answer = explained store instance conflicts may_stop answer
 IsAnswer may_stop room (Some (Part instance members)) store answer = parted store instance members answer
-IsAnswer may_stop room (Some (Prove instance solution conflicts)) store answer =
-    proved store instance solution (IsKeptTo conflicts may_stop) may_stop answer
+IsAnswer may_stop room (Some (Prove instance solution floor conflicts)) store answer =
+    proved store instance solution (IsShownWith floor (IsKeptTo conflicts may_stop) may_stop) answer
 IsAnswer may_stop room (Some (Bound instance log)) store answer = bounded store room instance log answer
 IsAnswer may_stop room (Some (Resume instance solution k conflicts)) store answer =
     resumed store instance solution k (IsKeptTo conflicts may_stop) answer

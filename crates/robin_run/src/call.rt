@@ -24,7 +24,7 @@ use answers::{NoValue, Reply, Status, write_answer};
 use command_check::check;
 use command_explain::{explain_file, part_file};
 use command_line::{Goal, Words, members, read_words, room_of};
-use command_prove::{bound_file, prove_file};
+use command_prove::{Aim, bound_file, prove_file};
 use command_resume::{
     Audit, NearResumption, Resumption, audit_file, resume_file, resume_near_file,
 };
@@ -147,8 +147,12 @@ fn follow<S: Shelf, W: Listener>(
         Words::Prove {
             instance,
             solution,
+            floor,
             conflicts,
-        } => give(prove_file(alloc, shelf, instance, solution, conflicts, watch)),
+        } => {
+            let aim = Aim { floor, conflicts };
+            give(prove_file(alloc, shelf, instance, solution, aim, watch))
+        }
         Words::Bound { instance, log } => give(bound_file(alloc, shelf, instance, log, limit)),
         Words::Resume {
             instance,

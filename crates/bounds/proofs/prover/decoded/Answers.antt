@@ -1,7 +1,7 @@
 use Rattle.std.proofs.Common.{arith, subst, sym}
-use Rattle.bounds.specs.Proofs.{IsProved}
+use Rattle.bounds.specs.Proofs.{IsSought}
 use Rattle.bounds.specs.declared.proved.Proved.{Proved}
-use Rattle.bounds.proofs.ProofLemmas.{below-start, better-below}
+use Rattle.bounds.proofs.ProofLemmas.{below-of, below-start}
 use Rattle.bounds.proofs.prover.decoded.Goals as goal
 
 pub bettered-requires : goal.bettered-requires
@@ -15,9 +15,10 @@ bettered-requires g c =
     )
 
 pub returns : goal.returns
-returns g c = λ m limit cost.
-    subst (λ (p : Proved). IsProved c.args.league.now m limit (g.W.Watch.may_stop c.args.watch.now) p)
-    (sym c.bettered.ensures)
-    (better-below c.args.league.now m c.args.objective _ c.in_ok-lower.lower.objective c.in_ok-schedule.schedule
+returns g c = λ limit.
+    subst (λ (p : Proved). IsSought c.args.league.now c.args.objective limit p) (sym c.bettered.ensures)
+    (below-of c.args.league.now c.args.objective _ c.in_ok-lower.lower.objective c.in_ok-lower.lower.schedule
+    c.in_ok-lower.lower.descent c.in_ok-lower.ensures.season.is_season
+    (below-start c.args.league.now c.args.objective _ c.in_ok-lower.lower.objective c.in_ok-schedule.schedule
     c.in_ok-lower.lower.schedule c.in_ok-lower.lower.descent c.in_ok-schedule.ensures
-    c.in_ok-lower.ensures.season.is_season c.in_ok-lower.ensures.first cost)
+    c.in_ok-lower.ensures.season.is_season c.in_ok-lower.ensures.first))

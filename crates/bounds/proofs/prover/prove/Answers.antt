@@ -1,10 +1,11 @@
 use Rattle.std.proofs.Common.{◌≤◌, arith, inl, refl, subst, sym, ◌∙◌}
 use Rattle.league.specs.Accepted.{objective}
 use Rattle.league.specs.Counts.{counts_of}
+use Rattle.robin_watch.specs.Limits.{IsKeptTo}
 use Rattle.solve.proofs.FewLemmas.{round_robin-few}
 use Rattle.bounds.specs.Proofs.{IsProved}
 use Rattle.bounds.specs.declared.proved.Proved.{Proved}
-use Rattle.bounds.proofs.ProofLemmas.{better-of, least_of_none, objective_small}
+use Rattle.bounds.proofs.ProofLemmas.{below-of, least_of_none, objective_small, proved-by}
 use Rattle.bounds.proofs.prover.prove.Goals as goal
 
 pub in_64_bits-objective-requires : goal.in_64_bits-objective-requires
@@ -39,7 +40,8 @@ returns-then-lower-from g c = (
   subst
       (λ (p : Proved). IsProved c.args.league.now (counts_of c.args.schedule.now) c.args.conflicts
       (g.W.Watch.may_stop c.args.watch.now) p) (sym c.bettered.ensures)
-      (better-of c.args.league.now (counts_of c.args.schedule.now) c.in_ok-lower.ensures.season.kept
+      (below-of c.args.league.now (objective c.args.league.now (counts_of c.args.schedule.now))
+      c.in_ok-lower.ensures.season.kept
       c.in_ok-lower.lower.objective c.in_ok-lower.lower.schedule c.in_ok-lower.lower.descent
       c.in_ok-lower.ensures.season.is_season
       (omega (arith, c.if-lower-from.true, c.from.ensures, c.in_64_bits-objective.ensures, c.requires.assessed))),
@@ -49,5 +51,8 @@ pub returns : goal.returns
 returns g c =
     let no_lower : objective c.args.league.now (counts_of c.args.schedule.now) ≤ c.in_ok-lower.lower.objective =
     omega (arith, c.if-lower-from.false, c.from.ensures, c.in_64_bits-objective.ensures, c.requires.assessed) in
-    c.in_ok-proved.ensures (counts_of c.args.schedule.now) (sym (c.in_64_bits-objective.ensures ∙ c.requires.assessed))
-    (c.in_ok-lower.ensures.settles (omega arith) no_lower)
+    let may_stop = g.W.Watch.may_stop c.args.watch.now in
+    proved-by c.args.league.now (counts_of c.args.schedule.now) (IsKeptTo c.args.conflicts may_stop) may_stop _
+    c.in_ok-proved.proved
+    (sym (c.in_64_bits-objective.ensures ∙ c.requires.assessed)) (c.in_ok-lower.ensures.settles (omega arith) no_lower)
+    c.in_ok-proved.ensures

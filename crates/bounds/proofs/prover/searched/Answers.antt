@@ -4,7 +4,7 @@ use Rattle.rows.specs.Rows.{Row}
 use Rattle.propagate.specs.Trails.{KnowsVariables}
 use Rattle.bound_rows.specs.BoundRows.{bound_rows, bound_vars}
 use Rattle.bound_rows.specs.Bounded.{Bounded}
-use Rattle.bounds.proofs.ProofLemmas.{answer-of, knows-from_known, least-of, spent-of}
+use Rattle.bounds.proofs.ProofLemmas.{answer-of, knows-from_known, none-of, spent-of}
 use Rattle.bounds.proofs.prover.searched.Goals as goal
 
 pub search_watched-requires-clause-known : goal.search_watched-requires-clause-known
@@ -32,29 +32,30 @@ decoded-requires-clause-satisfied g c =
     (rw c.in-Sat.is at answer).1
 
 pub returns-in-Refuted : goal.returns-in-Refuted
-returns-in-Refuted g c = λ m cost settled.
+returns-in-Refuted g c =
     let answer = answer-of c.args.league.now (c.args.objective - 1) c.vars.result c.rows.result.now c.in_ok-found.ensures.answer.kept
     c.in_ok-found.found (c.rows.ensures ∙ ap (λ (b : Bounded). bound_rows b.league b.bound) c.in_ok-system.ensures)
     (c.vars.ensures.vars ∙ ap (λ (b : Bounded). bound_vars b.league) c.in_ok-system.ensures) c.in_ok-found.ensures.answer.answer
     in (
       c.in_ok-found.ensures.answer.kept,
       c.in_ok-found.ensures.answer.is_kept,
-      least-of c.args.league.now m c.in_ok-found.ensures.answer.kept c.args.objective c.in-Refuted.log
-          c.requires.counted.instance cost c.requires.some (rw c.in-Refuted.is at answer),
+      refl,
+      none-of c.args.league.now c.in_ok-found.ensures.answer.kept c.args.objective c.in-Refuted.log
+          c.requires.counted.instance c.requires.some (rw c.in-Refuted.is at answer),
     )
 
 pub returns : goal.returns
-returns g c = λ m cost settled.
+returns g c =
     let answer = answer-of c.args.league.now (c.args.objective - 1) c.vars.result c.rows.result.now c.in_ok-found.ensures.answer.kept
     c.in_ok-found.found (c.rows.ensures ∙ ap (λ (b : Bounded). bound_rows b.league b.bound) c.in_ok-system.ensures)
     (c.vars.ensures.vars ∙ ap (λ (b : Bounded). bound_vars b.league) c.in_ok-system.ensures) c.in_ok-found.ensures.answer.answer
     in (
       c.in_ok-found.ensures.answer.kept,
       c.in_ok-found.ensures.answer.is_kept,
-      spent-of c.args.league.now m c.in_ok-found.ensures.answer.kept (g.W.Watch.may_stop c.args.watch.now)
-          c.args.objective c.in-Spent.log cost settled c.requires.some (rw c.in-Spent.is at answer),
+      spent-of c.args.league.now c.in_ok-found.ensures.answer.kept c.args.objective c.in-Spent.log c.requires.some
+          (rw c.in-Spent.is at answer),
     )
 
 pub returns-in-Sat : goal.returns-in-Sat
-returns-in-Sat g c = λ m cost settled.
-    (c.args.conflicts, inl refl, c.in_ok-proved-in-Sat.ensures m c.args.conflicts cost)
+returns-in-Sat g c =
+    (c.args.conflicts, inl refl, c.in_ok-proved-in-Sat.ensures c.args.conflicts)

@@ -8,6 +8,7 @@ use Rattle.command_check.specs.Check.{checked}
 use Rattle.command_explain.specs.Explained.{explained}
 use Rattle.command_explain.specs.Parted.{parted}
 use Rattle.command_solve.specs.Patterns.{patterned}
+use Rattle.command_prove.specs.Floor.{IsShownWith}
 use Rattle.command_prove.specs.Prove.{proved}
 use Rattle.command_resume.specs.Audited.{audited}
 use Rattle.command_resume.specs.Near.{neared}
@@ -100,7 +101,8 @@ returns-in-Prove-clause-answer g c =
     rw c.in-Prove.is
     (given-gives
     (proved (store_between g.S.Shelf c.args.shelf.now c.prove_file.new.shelf) c.in-Prove.instance.now c.in-Prove.solution.now
-    (IsKeptTo c.in-Prove.conflicts (g.W.Watch.may_stop c.args.watch.now)) (g.W.Watch.may_stop c.args.watch.now))
+    (IsShownWith c.in-Prove.floor (IsKeptTo c.in-Prove.conflicts (g.W.Watch.may_stop c.args.watch.now))
+    (g.W.Watch.may_stop c.args.watch.now)))
     _ _ c.give-in-Prove.ensures c.prove_file.ensures.answer)
 
 pub returns-in-Bound-clause-answer : goal.returns-in-Bound-clause-answer
