@@ -42,7 +42,7 @@ use Rattle.command_show.specs.Show.{form_text, labels_of}
 use Rattle.command_show.specs.declared.form.Form.{Form}
 use Rattle.command_show.specs.declared.form.Form.TheVariants.{Text, Csv}
 use Rattle.command_check.specs.Check.{IsVerdict, checked, encodes, most_log_bytes, says_log, verdict_answer}
-use Rattle.command_solve.specs.Patterns.{AreFound, patterned}
+use Rattle.command_solve.specs.Patterns.{AreFound, AreSearched, patterned}
 use Rattle.command_solve.specs.From.{IsBegun, IsFoundFrom, begun}
 use Rattle.command_solve.specs.Solve.{IsFound, IsFoundBy, solved}
 use Rattle.command_explain.specs.Explained as explaining
@@ -279,14 +279,21 @@ begun-ends Ends file fault ends_yes ends_no refuted spent store instance solutio
     (λ second start at_start. started-ends Ends file ends_yes ends_no refuted spent league budgets may_stop start answer at_start)
     at_league) given
 
+searched-ends : (Ends : Status → Type 0) → Ends Yes → Ends Refuted → Ends Spent → (league : Instance)
+    (conflicts : Option ℕ) (answer : Answer) → AreSearched league conflicts answer → Ends answer.status
+searched-ends Ends ends_yes refuted spent league conflicts answer (inl found) = ends-with Ends answer Yes found.status
+    ends_yes
+searched-ends Ends ends_yes refuted spent league conflicts answer (inr (inl log)) =
+    ends-with Ends answer Refuted log.status refuted
+searched-ends Ends ends_yes refuted spent league conflicts answer (inr (inr log)) =
+    ends-with Ends answer Spent log.status spent
+
 patterns-ends : (Ends : Status → Type 0) → Ends Yes → Ends Refuted → Ends Spent → (league : Instance)
     (conflicts : Option ℕ) (answer : Answer) → AreFound league conflicts answer → Ends answer.status
-patterns-ends Ends ends_yes refuted spent league conflicts answer (inl found) = ends-with Ends answer Yes found.status
-    ends_yes
-patterns-ends Ends ends_yes refuted spent league conflicts answer (inr (inl log)) =
-    ends-with Ends answer Refuted log.status refuted
-patterns-ends Ends ends_yes refuted spent league conflicts answer (inr (inr log)) =
-    ends-with Ends answer Spent log.status spent
+patterns-ends Ends ends_yes refuted spent league conflicts answer (inl counted) =
+    ends-with Ends answer Refuted counted.1.status refuted
+patterns-ends Ends ends_yes refuted spent league conflicts answer (inr searched) =
+    searched-ends Ends ends_yes refuted spent league conflicts answer searched.1
 
 patterned-ends : (Ends : Status → Type 0) → Ends File → Ends ReadFault → Ends Yes → Ends Refuted → Ends Spent
     → (store : Store) (instance : List ℕ)
@@ -484,6 +491,14 @@ resuming-ends Ends ends_yes refuted spent league played k conflicts answer found
       | inr (inr log) ↦ ends-with Ends answer Spent log.status spent
     ]
 
+resuming_by-ends : (Ends : Status → Type 0) → Ends Yes → Ends Refuted → Ends Spent → (league : Instance)
+    (played : List Game) (k : ℕ) (limits : Option ℕ → Type 0) (answer : Answer)
+    → resuming.IsFoundBy league played k limits answer → Ends answer.status
+resuming_by-ends Ends ends_yes refuted spent league played k limits answer (inl counted) =
+    ends-with Ends answer Refuted counted.status refuted
+resuming_by-ends Ends ends_yes refuted spent league played k limits answer (inr found) =
+    resuming-ends Ends ends_yes refuted spent league played k found.1.0 answer found.1.2
+
 resumed-ends : (Ends : Status → Type 0) → Ends File → Ends ReadFault → Ends Yes → Ends Refuted → Ends Spent
     → (store : Store)
     (instance solution : List ℕ) (k : ℕ) (limits : Option ℕ → Type 0) (answer : Answer)
@@ -492,7 +507,7 @@ resumed-ends Ends file fault ends_yes refuted spent store instance solution k li
     given =
     plays-ends Ends file fault store instance solution k
     (λ league played bytes. resuming.IsFoundBy league played k limits) answer
-    (λ league played bytes found. resuming-ends Ends ends_yes refuted spent league played k found.0 answer found.2)
+    (λ league played bytes found. resuming_by-ends Ends ends_yes refuted spent league played k limits answer found)
     given
 
 nearing-ends : (Ends : Status → Type 0) → Ends Yes → Ends Refuted → Ends Spent → (league : Instance)
@@ -505,6 +520,14 @@ nearing-ends Ends ends_yes refuted spent league played k conflicts may_stop answ
       | inr (inr log) ↦ ends-with Ends answer Spent log.status spent
     ]
 
+nearing_by-ends : (Ends : Status → Type 0) → Ends Yes → Ends Refuted → Ends Spent → (league : Instance)
+    (played : List Game) (k : ℕ) (limits : Option ℕ → Type 0) (may_stop : Type 0) (answer : Answer)
+    → nearing.IsNearBy league played k limits may_stop answer → Ends answer.status
+nearing_by-ends Ends ends_yes refuted spent league played k limits may_stop answer (inl counted) =
+    ends-with Ends answer Refuted counted.status refuted
+nearing_by-ends Ends ends_yes refuted spent league played k limits may_stop answer (inr found) =
+    nearing-ends Ends ends_yes refuted spent league played k found.1.0 may_stop answer found.1.2
+
 neared-ends : (Ends : Status → Type 0) → Ends File → Ends ReadFault → Ends Yes → Ends Refuted → Ends Spent
     → (store : Store)
     (instance solution : List ℕ) (k : ℕ) (limits : Option ℕ → Type 0) (may_stop : Type 0) (answer : Answer)
@@ -513,7 +536,7 @@ neared-ends Ends file fault ends_yes refuted spent store instance solution k lim
     given =
     plays-ends Ends file fault store instance solution k
     (λ league played bytes. nearing.IsNearBy league played k limits may_stop) answer
-    (λ league played bytes found. nearing-ends Ends ends_yes refuted spent league played k found.0 may_stop answer found.2)
+    (λ league played bytes found. nearing_by-ends Ends ends_yes refuted spent league played k limits may_stop answer found)
     given
 
 audited-ends : (Ends : Status → Type 0) → Ends File → Ends ReadFault → Ends Yes → Ends No
