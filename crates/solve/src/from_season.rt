@@ -14,10 +14,10 @@ ghost use Rattle.solve.specs.Solutions.{CostsAtMost, HasSchedule, IsRefuted, IsS
 ghost use Rattle.venue_counts.specs.VenueCounts.{are_crowded, are_short};
 
 use crate::attempt::try_search;
+use crate::by_planes::found_or_refuted;
 use crate::circle::try_circle;
 use crate::counting::count_out;
 use crate::from_walk::walk_from;
-use crate::planes::found_or_refuted;
 use crate::prefer::true_in;
 use crate::share::{Share, walk_times};
 use crate::solved::Solved;

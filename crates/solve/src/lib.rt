@@ -4,12 +4,12 @@
 #![tactic(auto)]
 
 mod attempt;
+mod by_planes;
 mod circle;
 mod counting;
 mod from_season;
 mod from_walk;
 mod lower;
-mod planes;
 mod prefer;
 mod share;
 mod solved;

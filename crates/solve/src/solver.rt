@@ -17,10 +17,10 @@ ghost use Rattle.venue_counts.specs.VenueCounts.{are_crowded, are_short};
 ghost use Rattle.encoding.specs.Limit.{KeepsLimit, most_terms};
 
 use crate::attempt::try_both;
+use crate::by_planes::found_or_refuted;
 use crate::circle::try_circle;
 use crate::counting::count_out;
 use crate::lower::Season;
-use crate::planes::found_or_refuted;
 use crate::prefer::{preferred, shuffled, venues};
 use crate::share::{Share, walk_times};
 use crate::solved::Solved;

@@ -1,5 +1,5 @@
 use Rattle.solve.proofs.PlaneLemmas.{found_refutes}
-use Rattle.solve.proofs.planes.refuted_by_planes.Goals as goal
+use Rattle.solve.proofs.by_planes.refuted_by_planes.Goals as goal
 
 pub returns : goal.returns
 returns g c =
