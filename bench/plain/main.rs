@@ -33,7 +33,7 @@ use planes::{Derived, Start, refute};
 use prelude::{AllocError, Global, Vec};
 use refutation::{Log, StepKind, log_text};
 use robin_watch::{News, Watch};
-use rows::RowStore;
+use rows::{Lit, RowStore};
 use std::cell::Cell;
 
 /// The processor seconds of this process.
@@ -135,10 +135,22 @@ fn start_of(encoding: &Encoding, laws: bool) -> Result<Start, AllocError> {
     Ok(start)
 }
 
+/// What a search by clauses decides first, as in `solve`: what the season of the circle method makes true.
+fn preferred(encoding: &Encoding) -> Result<Vec<Lit>, AllocError> {
+    let season = circle_method::double(Global, encoding.n())?;
+    let values = decoding::shadow(Global, encoding, &season)?;
+    let mut lits = Vec::new(Global);
+    for var in (1..=encoding.vars()).filter(|var| values.value(*var)) {
+        lits.push(Lit::new(var, true))?;
+    }
+    Ok(lits)
+}
+
 /// Searches the rows of a league, with those of breaks behind them where breaks are bounded.
 fn search_league(encoding: &Encoding, way: &Way) -> Result<Outcome, AllocError> {
     if !way.planes {
-        return Ok(league_search::search_league(Global, encoding, &[], way.limit, &way.clock)?.into());
+        let prefer = preferred(encoding)?;
+        return Ok(league_search::search_league(Global, encoding, &prefer, way.limit, &way.clock)?.into());
     }
     let start = start_of(encoding, way.laws)?;
     let most = way.limit.unwrap_or(u64::MAX);
