@@ -32,29 +32,30 @@ few_breaks() {
     }'
 }
 
-# limited COMMAND ..: runs it with so many seconds of processor time; `out` has what it says, `user` its user seconds.
+# limited LIMIT COMMAND ..: runs it with so many seconds of processor time; `out` has what it says, `user` its user seconds.
 limited() {
     (
-        ulimit -St $((seconds + 5))
-        time "$@" >out 2>errors
+        ulimit -St "$1"
+        ulimit -Ht $(($1 + 2))
+        time "${@:2}" >out 2>errors
     ) 2>times
     user=$(tail -n 1 times)
 }
 
-# by_robin WAY: searches by clauses or by planes.
+# by_robin WAY NAME: searches by clauses or by planes.
 by_robin() {
     rm -f log
-    limited "$plain" league.xml "$1" --seconds "$seconds" --log log
+    limited $((seconds + 5)) "$plain" league.xml "$1" --seconds "$seconds" --log log
     said=$(sed 's/, [0-9.]* s//' out)
     [ ! -f log ] || said="$said, $("$program" check league.xml log | head -n 1)"
     echo "$2: robin by $1: ${said:-spent}, $user s"
 }
 
-# by_other SOLVER
+# by_other SOLVER NAME: asks it about the rows.
 by_other() {
     case $1 in
-    clasp) limited clasp rows.opb --stats --time-limit="$seconds" ;;
-    minisat+) limited timeout "$seconds" minisat+ -a plain.opb ;;
+    clasp) limited "$seconds" clasp rows.opb --stats ;;
+    minisat+) limited "$seconds" stdbuf -oL minisat+ -a plain.opb ;;
     esac
     verdict=spent
     ! grep -qE '^s (SATIS|OPTIMUM)' out || verdict=found

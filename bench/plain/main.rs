@@ -29,11 +29,14 @@ use bound_rows::{bound_system, bound_terms};
 use clause_search::{Found, search_watched};
 use encoding::{Encoding, encode};
 use league::League;
-use planes::{Derived, Start, refute};
+use planes::desk::Desk;
+use planes::search::search;
+use planes::{Derived, Start};
 use prelude::{AllocError, Global, Vec};
-use refutation::{Log, StepKind, log_text};
+use refutation::{Log, StepKind, Verdict, log_text};
+use refutation_check::check;
 use robin_watch::{News, Watch};
-use rows::{Lit, RowStore};
+use rows::{Lit, RowStore, Value};
 use std::cell::Cell;
 
 /// The processor seconds of this process.
@@ -61,7 +64,7 @@ impl Watch for Clock {
     fn tell(&self, _news: News) {}
 }
 
-/// What a search comes to. Planes say no more than that they refute nothing.
+/// What a search comes to.
 enum Outcome {
     Found,
     Refuted(Log),
@@ -152,9 +155,25 @@ fn search_league(encoding: &Encoding, way: &Way) -> Result<Outcome, AllocError> 
         let prefer = preferred(encoding)?;
         return Ok(league_search::search_league(Global, encoding, &prefer, way.limit, &way.clock)?.into());
     }
-    let start = start_of(encoding, way.laws)?;
-    let most = way.limit.unwrap_or(u64::MAX);
-    Ok(refute(Global, encoding.rows(), encoding.vars(), start, most, &way.clock)?.into())
+    search_planes(encoding.rows(), encoding.vars(), start_of(encoding, way.laws)?, way)
+}
+
+/// Searches rows by planes, as `refute` of `planes` does, which tells of no values.
+fn search_planes(rows: &RowStore, vars: u32, start: Start, way: &Way) -> Result<Outcome, AllocError> {
+    let mut desk = Desk::new(Global, rows, vars, start)?;
+    if search(Global, &mut desk, vars, way.limit.unwrap_or(u64::MAX), &way.clock)? {
+        let log = desk.tools.take_steps(Global);
+        assert_eq!(check(Global, rows, vars, &log)?, Verdict::Accepted);
+        return Ok(Outcome::Refuted(log));
+    }
+    if desk.trail.len() < vars as usize {
+        return Ok(Outcome::Nothing);
+    }
+    for place in 0..rows.len() {
+        let met = rows.terms(place).iter().filter(|term| desk.trail.value(term.lit) == Value::True);
+        assert!(met.map(|term| u64::from(term.coef)).sum::<u64>() >= rows.degree(place));
+    }
+    Ok(Outcome::Found)
 }
 
 /// Searches the rows that say that a season costs at most so much.
