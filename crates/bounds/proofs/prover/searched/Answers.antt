@@ -39,9 +39,11 @@ returns-in-Refuted g c =
     in (
       c.in_ok-found.ensures.answer.kept,
       c.in_ok-found.ensures.answer.is_kept,
-      refl,
-      none-of c.args.league.now c.in_ok-found.ensures.answer.kept c.args.objective c.in-Refuted.log
-          c.requires.counted.instance c.requires.some (rw c.in-Refuted.is at answer),
+      (
+        refl,
+        none-of c.args.league.now c.in_ok-found.ensures.answer.kept c.args.objective c.in-Refuted.log
+            c.requires.counted.instance c.requires.some (rw c.in-Refuted.is at answer),
+      ),
     )
 
 pub returns : goal.returns
