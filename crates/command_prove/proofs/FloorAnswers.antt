@@ -7,7 +7,6 @@ use Rattle.robinx_tags.specs.Pieces.{pieces}
 use Rattle.robinx_form.specs.InstanceFile.{instance_of}
 use Rattle.robinx_form.specs.SolutionFile.{solution_of}
 use Rattle.answers.specs.Reply.{Answer}
-use Rattle.answers.specs.declared.status.Status.{Status}
 use Rattle.answers.specs.declared.status.Status.TheVariants.{Yes, No, Spent, Better}
 use Rattle.command_prove.specs.Floor.{IsFloorShown, IsFloorShownBy, IsMissed, IsReached, IsShownWith, IsUndercut}
 use Rattle.command_prove.specs.Prove.{proved}
