@@ -1,5 +1,5 @@
 -- What follows from an answer of `prove` to a floor that is asked for.
-use Rattle.std.proofs.Common.{◌≡◌, ℕ, List, Option, Some, Ok, inl, inr}
+use Rattle.std.proofs.Common.{◌≡◌, ◌⊎◌, ℕ, List, Option, Some, Ok, inl, inr}
 use Rattle.robin_io.specs.Outside.{Store}
 use Rattle.league.specs.Instance.{Instance}
 use Rattle.league.specs.declared.game.Game.{Game}
@@ -7,7 +7,6 @@ use Rattle.robinx_tags.specs.Pieces.{pieces}
 use Rattle.robinx_form.specs.InstanceFile.{instance_of}
 use Rattle.robinx_form.specs.SolutionFile.{solution_of}
 use Rattle.answers.specs.Reply.{Answer}
-use Rattle.answers.specs.declared.status.Status.{Status}
 use Rattle.answers.specs.declared.status.Status.TheVariants.{Yes, No, Spent, Better}
 use Rattle.command_prove.specs.Floor.{IsFloorShown, IsFloorShownBy, IsMissed, IsReached, IsShownWith, IsUndercut}
 use Rattle.command_prove.specs.Prove.{proved}
@@ -36,16 +35,21 @@ floor-better league asked conflicts games answer (inr (inr (inl h))) is = h
 floor-better league asked conflicts games answer (inr (inr (inr h))) is =
     let same : Spent ≡ Better = other Spent Better answer h.status is in cc
 
+-- what is left of four cases
+fourth : {A B C D : Type 0} → A ⊎ (B ⊎ (C ⊎ D)) → (A → ⊥) → (B → ⊥) → (C → ⊥) → D
+fourth (inl h) a b c = absurd (a h)
+fourth (inr (inl h)) a b c = absurd (b h)
+fourth (inr (inr (inl h))) a b c = absurd (c h)
+fourth (inr (inr (inr h))) a b c = h
+
 floor-spent : (league : Instance) (asked : ℕ) (conflicts : Option ℕ) (games : List Game) (answer : Answer)
     → IsFloorShown league asked conflicts games answer → answer.status ≡ Spent
     → IsMissed league asked conflicts games answer
-floor-spent league asked conflicts games answer (inl h) is =
-    let same : No ≡ Spent = other No Spent answer h.status is in cc
-floor-spent league asked conflicts games answer (inr (inl h)) is =
-    let same : Yes ≡ Spent = other Yes Spent answer h.status is in cc
-floor-spent league asked conflicts games answer (inr (inr (inl h))) is =
-    let same : Better ≡ Spent = other Better Spent answer h.0.status is in cc
-floor-spent league asked conflicts games answer (inr (inr (inr h))) is = h
+floor-spent league asked conflicts games answer shown is =
+    fourth shown
+    (λ h. let same : No ≡ Spent = other No Spent answer h.status is in cc)
+    (λ h. let same : Yes ≡ Spent = other Yes Spent answer h.status is in cc)
+    (λ h. let same : Better ≡ Spent = other Better Spent answer h.0.status is in cc)
 
 -- ---- files that are known
 
