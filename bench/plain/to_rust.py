@@ -4,6 +4,7 @@
 std's Vec is that of prelude.rs. It reads without tests, as code does whose reads are proved."""
 import pathlib
 import re
+import shutil
 import sys
 
 CRATES = """league robin_watch rows refutation propagate refutation_check clause_search circle_method encoding_base
@@ -47,7 +48,7 @@ def without(text, pattern, end):
 
 def without_proofs(text):
     """The text without contracts, ghosts and models."""
-    text = without(text, r"^impl(<[^\n{]*>)? Model for [^{]*", lambda text, at: end_of_block(text, at))
+    text = without(text, r"^impl(<[^\n{]*>)? Model for [^{]*", end_of_block)
     text = without(text, r"^[ \t]*(?:pub(?:\(crate\))? )?ghost (?=[a-z_*])", end_of_item)
     text = without(text, r"^[ \t]*(requires|ensures)\*?(?= |\{)", end_of_block)
     text = re.sub(r"^#!?\[tactic.*\n", "", text, flags=re.M)
@@ -71,20 +72,29 @@ def in_one_crate(name, text, modules):
     return text
 
 
-def rust(name, file):
-    text = without_proofs(file.read_text())
-    modules = re.findall(r"^(?:pub )?mod ([a-z_0-9]+);", text, re.M) if file.stem == "lib" else []
+def in_plain_rust(text):
+    """The text without what std's Rust doesn't have."""
     text = re.sub(r"#\[derive\(([^)]*)\)\]", derived, text)
     text = re.sub(r"^\s*#\[error\(.*\)\]\n", "", text, flags=re.M)
     text = re.sub(r"^use (std::alloc::[^;]*|std::marker::Model|thiserror::Error);\n", "", text, flags=re.M)
     text = re.sub(r"(<T|trait \w+): Drop\b", r"\1", text)
-    text = re.sub(r"vec!\[in ([a-z_.]+); ([^;]*); ([^;]*?)\]", r"Vec::filled(\1, \2, \3)", text)
-    text = in_one_crate(name, text, modules)
-    text = re.sub(r"^mod ", "pub(crate) mod ", text, flags=re.M)
+    return re.sub(r"vec!\[in ([a-z_.]+); ([^;]*); ([^;]*?)\]", r"Vec::filled(\1, \2, \3)", text)
+
+
+def without_left_out(name, stem, text):
+    """The text of a file of a crate without the modules and calls that are left out."""
     for gone in LEFT_OUT.get(name, []):
-        text = re.sub(rf"^(pub(?:\(crate\))? )?(mod {gone}|use (self|crate::{name})::{gone}::[^;]*);\n", "", text, flags=re.M)
-    for call in LEFT_OUT_CALLS.get((name, file.stem), []):
+        text = re.sub(rf"^(pub(\(crate\))? )?(mod {gone}|use (self|crate::{name})::{gone}::[^;]*);\n", "", text, flags=re.M)
+    for call in LEFT_OUT_CALLS.get((name, stem), []):
         text = without(text, rf"^    (?:///.*\n    )*(?:pub(?:\(crate\))? )?fn {call}\b", end_of_block)
+    return text
+
+
+def rust(name, stem, text):
+    """The text of a file of a crate as plain Rust. All modules are seen in the whole package."""
+    modules = re.findall(r"^(?:pub )?mod ([a-z_0-9]+);", text, re.M) if stem == "lib" else []
+    text = in_one_crate(name, in_plain_rust(without_proofs(text)), modules)
+    text = without_left_out(name, stem, re.sub(r"^mod ", "pub(crate) mod ", text, flags=re.M))
     head = re.match(r"(//!.*\n|\s*\n)*", text).end()
     return text[:head] + "use crate::prelude::*;\n" + text[head:]
 
@@ -97,11 +107,10 @@ def main():
         for file in (here.parent.parent / "crates" / name / "src").glob("*.rt"):
             if file.stem not in LEFT_OUT.get(name, []):
                 stem = "mod" if file.stem == "lib" else file.stem
-                (out / "src" / name / f"{stem}.rs").write_text(rust(name, file))
-    for file in ("main.rs", "prelude.rs", "robin_io.rs", "league_file.rs"):
-        if (here / file).exists():
-            (out / "src" / file).write_text((here / file).read_text())
-    (out / "Cargo.toml").write_text((here / "Cargo.toml").read_text())
+                (out / "src" / name / f"{stem}.rs").write_text(rust(name, file.stem, file.read_text()))
+    for file in here.glob("*.rs"):
+        shutil.copy(file, out / "src")
+    shutil.copy(here / "Cargo.toml", out)
 
 
 main()
