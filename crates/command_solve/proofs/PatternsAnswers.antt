@@ -13,7 +13,7 @@ use Rattle.answers.proofs.StageLemmas.{takes-known, takes-refuted, says-known}
 use Rattle.encoding_base.specs.Encoding.{encoding_size}
 use Rattle.command_check.specs.Check.{encodes}
 use Rattle.command_check.proofs.AnswerLemmas.{encodes-small}
-use Rattle.command_solve.specs.Patterns.{AreFound, patterned}
+use Rattle.command_solve.specs.Patterns.{AreFound, AreSearched, patterned}
 use Rattle.encoding.specs.Limit.{most_terms}
 
 -- what is found behind the instance file
@@ -37,13 +37,19 @@ patterned-well_formed store instance bytes conflicts league answer known within 
     (takes-known (codes "instance") (store.contents instance) INSTANCE_LIMIT (store.took_more INSTANCE_LIMIT) (store.failed instance)
     (said_of conflicts) answer bytes known within works given))
 
+searched-refuted : (league : Instance) (conflicts : Option ℕ) (answer : Answer) → answer.status ≡ Refuted
+    → AreSearched league conflicts answer → NoneAccepted league
+searched-refuted league conflicts answer ended (inl found) =
+    let same : Yes ≡ Refuted = sym found.status ∙ ended in absurd (cc)
+searched-refuted league conflicts answer ended (inr (inl refuted)) = refuted.refutes.none
+searched-refuted league conflicts answer ended (inr (inr spent)) =
+    let same : Spent ≡ Refuted = sym spent.status ∙ ended in absurd (cc)
+
 found-refuted : (league : Instance) (conflicts : Option ℕ) (answer : Answer) → answer.status ≡ Refuted
     → AreFound league conflicts answer → NoneAccepted league
-found-refuted league conflicts answer ended (inl found) =
-    let same : Yes ≡ Refuted = sym found.status ∙ ended in absurd (cc)
-found-refuted league conflicts answer ended (inr (inl refuted)) = refuted.refutes.none
-found-refuted league conflicts answer ended (inr (inr spent)) =
-    let same : Spent ≡ Refuted = sym spent.status ∙ ended in absurd (cc)
+found-refuted league conflicts answer ended (inl counted) = counted.1.none
+found-refuted league conflicts answer ended (inr searched) =
+    searched-refuted league conflicts answer ended searched.1
 
 encoded-refuted : (league : Instance) (conflicts : Option ℕ) (answer : Answer) → answer.status ≡ Refuted
     → found_of conflicts league answer → NoneAccepted league

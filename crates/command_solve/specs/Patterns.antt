@@ -1,5 +1,5 @@
 -- What `patterns` answers: its stages in their order, and what is found of a league's patterns.
-use Rattle.std.specs.Prelude.{◌≡◌, ℕ, ◌+◌, ◌⊎◌, List, [], ◌∷◌, ◌++◌, codes, decimal, Option, Ok}
+use Rattle.std.specs.Prelude.{◌≡◌, ℕ, ◌+◌, ◌⊎◌, true, false, List, [], ◌∷◌, ◌++◌, codes, decimal, Option, Ok}
 use Rattle.std.specs.List.{flat_map}
 use Rattle.robin_io.specs.Outside.{Store}
 use Rattle.league.specs.Instance.{Instance}
@@ -11,12 +11,15 @@ use Rattle.robinx_read.specs.declared.instance.TheConstants.{INSTANCE_LIMIT}
 use Rattle.answers.specs.Reply.{Answer}
 use Rattle.answers.specs.Stages.{◌>>=◌, Outcome, reads, says}
 use Rattle.answers.specs.declared.status.Status.TheVariants.{Yes, Refuted, Spent}
+use Rattle.encoding_base.specs.Encoding.{rows_of}
 use Rattle.refutation.specs.Steps.{Step}
 use Rattle.refutation.specs.Logs.{log_of}
 use Rattle.refutation.specs.Texts.{log_text}
+use Rattle.break_counts.specs.BreakCounts.{are_few}
 use Rattle.command_check.specs.Check.{encodes}
 use Rattle.pattern_search.specs.PatternLogs.{IsPatternSpent, RefutesPatterns}
 use Rattle.pattern_search.specs.PatternSets.{IsPatternSet}
+use Rattle.command_solve.specs.Solve as solves
 
 -- ---- texts
 
@@ -63,10 +66,17 @@ pub record IsBudgetSpent (league : Instance) (conflicts : Option ℕ) (answer : 
   pub text : answer.text ≡ log_text steps
   pub reads_back : log_of answer.text ≡ Ok steps
 
--- what is found of a league's patterns, within a budget of conflicts
+-- what a search for a league's patterns finds, within a budget of conflicts
+abbrev pub AreSearched : Instance → Option ℕ → Outcome
+AreSearched league conflicts answer =
+    ArePatterns league answer ⊎ (IsRefuted league conflicts answer ⊎ IsBudgetSpent league conflicts answer)
+
+-- What is found of a league's patterns: where it allows its teams too few breaks, a log that refutes it, whatever the
+-- budget, since no season has its patterns; and else what the search finds.
 abbrev pub AreFound : Instance → Option ℕ → Outcome
 AreFound league conflicts answer =
-    ArePatterns league answer ⊎ (IsRefuted league conflicts answer ⊎ IsBudgetSpent league conflicts answer)
+    ((are_few league ≡ true) × solves.IsRefuted league (rows_of league) answer)
+    ⊎ ((are_few league ≡ false) × AreSearched league conflicts answer)
 
 -- ---- stages
 

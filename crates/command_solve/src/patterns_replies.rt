@@ -1,5 +1,5 @@
 //! The answers of `patterns`.
-ghost use Rattle.std.specs.Prelude.{◌≡◌, false, IfOk, Ok};
+ghost use Rattle.std.specs.Prelude.{◌≡◌, ◌≤◌, false, IfOk, Ok};
 ghost use Rattle.std.specs.List.{All};
 ghost use Rattle.answers.specs.SeenReply.{answer_of};
 ghost use Rattle.answers.specs.declared.status.Status.TheVariants.{Yes};
@@ -7,13 +7,18 @@ ghost use Rattle.clause_search.specs.News.{IsTidy};
 ghost use Rattle.refutation.specs.Logs.{log_of};
 ghost use Rattle.refutation.specs.Steps.{is_linear};
 ghost use Rattle.refutation.specs.Texts as logs;
+ghost use Rattle.encoding.specs.Limit.{most_terms};
+ghost use Rattle.encoding_base.specs.Encoding.{encoding_size};
 ghost use Rattle.command_solve.specs.Patterns as texts;
-ghost use Rattle.command_solve.specs.Patterns.{AreFound};
+ghost use Rattle.command_solve.specs.Patterns.{AreFound, AreSearched};
 
 use crate::pattern_lines::patterns_text;
+use crate::solve_replies;
 use answers::{Reply, Status};
+use break_counts::break_count;
 use clause_search::tidy_text;
 use encoding::Encoding;
+use league::League;
 use pattern_search::{PatternFound, pattern_set};
 use patterns::PatternSet;
 use refutation::Log;
@@ -43,13 +48,31 @@ fn log_reply(alloc: Global, status: Status, log: &Log) -> Result<Reply, AllocErr
     Ok(Reply { status, text })
 }
 
-/// What is found of a league's patterns within this budget.
+/// What is found of a league's patterns: where it allows its teams too few breaks, a log that counts them.
 pub(crate) fn found_reply(
+    alloc: Global,
+    league: &League,
+    encoding: &Encoding,
+    conflicts: Option<u64>,
+) -> Result<Reply, AllocError>
+    requires same { encoding.now ≡ league.now }
+    requires small { encoding_size league.now ≤ most_terms }
+    ensures { IfOk result (λ reply. AreFound league.now conflicts (answer_of reply)) }
+{
+    let counted = break_count(alloc, league)?;
+    match counted {
+        Some(log) => solve_replies::log_reply(alloc, Status::Refuted, &log),
+        None => searched_reply(alloc, encoding, conflicts),
+    }
+}
+
+/// What a search for a league's patterns finds within this budget.
+fn searched_reply(
     alloc: Global,
     encoding: &Encoding,
     conflicts: Option<u64>,
 ) -> Result<Reply, AllocError>
-    ensures { IfOk result (λ reply. AreFound encoding.now conflicts (answer_of reply)) }
+    ensures { IfOk result (λ reply. AreSearched encoding.now conflicts (answer_of reply)) }
 {
     let _vars = encoding.vars();
     match pattern_set(alloc, encoding, conflicts)? {

@@ -18,14 +18,15 @@ fn found_of(alloc: Global, league: &League, conflicts: Option<u64>) -> Result<Re
     ensures { Answers (encodes league.now (λ rows. AreFound league.now conflicts)) result }
 {
     match encode(alloc, league) {
-        Ok(encoding) => Ok(found_reply(alloc, &encoding, conflicts)?),
+        Ok(encoding) => Ok(found_reply(alloc, league, &encoding, conflicts)?),
         Err(EncodeFault::TooLarge { terms }) => Err(NoValue::Refused(rows_refused(alloc, terms)?)),
         Err(EncodeFault::Mem) => Err(NoValue::Memory),
     }
 }
 
 /// Finds patterns that the pattern rows of the league of a file allow, or a log that refutes them, and so the league.
-/// With a budget the search learns at most so many clauses, and its log is the answer where it is spent.
+/// Where the league allows its teams too few breaks, the log counts them, whatever the budget: no season has patterns
+/// that its pattern rows allow. With a budget the search learns at most so many clauses, and its log is the answer where it is spent.
 ///
 /// # Errors
 /// Where a file is refused, with the reply that says why, and where memory runs out.

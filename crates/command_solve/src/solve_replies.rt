@@ -47,7 +47,7 @@ fn schedule_reply(
 }
 
 /// A log, as the answer of this status.
-fn log_reply(alloc: Global, status: Status, log: &Log) -> Result<Reply, AllocError>
+pub(crate) fn log_reply(alloc: Global, status: Status, log: &Log) -> Result<Reply, AllocError>
     requires named { All NamesRows log.now }
     requires short { HasShortLines log.now }
     ensures status { IfOk result (λ reply. (answer_of reply).status ≡ status) }

@@ -624,7 +624,7 @@ pub found-crowded : (may_stop : Type 0) → IsFound crowd budgets may_stop (rows
 found-crowded may_stop is = refuted_spent (is.crowded refl)
 
 -- four teams need two breaks in the season of a league without phases, and may have one
-abbrev one_break : Instance
+abbrev pub one_break : Instance
 one_break = record {
   n = 4;
   phased = false;
@@ -638,6 +638,12 @@ one_break = record {
 pub found-few : (may_stop : Type 0) → IsFound one_break budgets may_stop (rows_of one_break) spent → ⊥
 found-few may_stop is = refuted_spent (is.few refl)
 
+-- nothing but a refutation is found of its patterns
+pub patterns-few : (conflicts : Option ℕ) (answer : Answer) → AreFound one_break conflicts answer
+    → answer.status ≡ Refuted
+patterns-few conflicts answer (inl counted) = counted.1.status
+patterns-few conflicts answer (inr searched) = absurd (false_true (sym searched.0))
+
 -- what accepts a season has no refuted patterns
 pub patterns-even : (conflicts : Option ℕ) (answer : Answer) → patterned.IsRefuted even_soon conflicts answer → ⊥
 patterns-even conflicts answer is = is.refutes.none zero_first even-accepted
@@ -646,7 +652,7 @@ pub patterned-each : Writes (ended_with Yes (Some []) (Some (codes "0 AH\n1 HA\n
     × Writes (ended_with Refuted (Some []) (Some (codes "refutation 1\n0 29 30 24 0\nend\n"))) (AreFound home_last (Some 0))
     × Writes (ended_with Spent (Some (codes "> ")) (Some (codes "> refutation 1\nend\n"))) (AreFound even_soon (Some 0))
 patterned-each = (
-  record { answer = lines; of_kind = inl patterns-turns; ended = refl; written = refl },
-  record { answer = refutation; of_kind = inr (inl patterns-refuted); ended = refl; written = refl },
-  record { answer = spent; of_kind = inr (inr patterns-spent); ended = refl; written = refl },
+  record { answer = lines; of_kind = inr (refl, inl patterns-turns); ended = refl; written = refl },
+  record { answer = refutation; of_kind = inr (refl, inr (inl patterns-refuted)); ended = refl; written = refl },
+  record { answer = spent; of_kind = inr (refl, inr (inr patterns-spent)); ended = refl; written = refl },
 )

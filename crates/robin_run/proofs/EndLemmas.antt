@@ -42,7 +42,7 @@ use Rattle.command_show.specs.Show.{form_text, labels_of}
 use Rattle.command_show.specs.declared.form.Form.{Form}
 use Rattle.command_show.specs.declared.form.Form.TheVariants.{Text, Csv}
 use Rattle.command_check.specs.Check.{IsVerdict, checked, encodes, most_log_bytes, says_log, verdict_answer}
-use Rattle.command_solve.specs.Patterns.{AreFound, patterned}
+use Rattle.command_solve.specs.Patterns.{AreFound, AreSearched, patterned}
 use Rattle.command_solve.specs.From.{IsBegun, IsFoundFrom, begun}
 use Rattle.command_solve.specs.Solve.{IsFound, IsFoundBy, solved}
 use Rattle.command_explain.specs.Explained as explaining
@@ -278,14 +278,21 @@ begun-ends Ends file fault ends_yes ends_no refuted spent store instance solutio
     (λ second start at_start. started-ends Ends file ends_yes ends_no refuted spent league budgets may_stop start answer at_start)
     at_league) given
 
+searched-ends : (Ends : Status → Type 0) → Ends Yes → Ends Refuted → Ends Spent → (league : Instance)
+    (conflicts : Option ℕ) (answer : Answer) → AreSearched league conflicts answer → Ends answer.status
+searched-ends Ends ends_yes refuted spent league conflicts answer (inl found) = ends-with Ends answer Yes found.status
+    ends_yes
+searched-ends Ends ends_yes refuted spent league conflicts answer (inr (inl log)) =
+    ends-with Ends answer Refuted log.status refuted
+searched-ends Ends ends_yes refuted spent league conflicts answer (inr (inr log)) =
+    ends-with Ends answer Spent log.status spent
+
 patterns-ends : (Ends : Status → Type 0) → Ends Yes → Ends Refuted → Ends Spent → (league : Instance)
     (conflicts : Option ℕ) (answer : Answer) → AreFound league conflicts answer → Ends answer.status
-patterns-ends Ends ends_yes refuted spent league conflicts answer (inl found) = ends-with Ends answer Yes found.status
-    ends_yes
-patterns-ends Ends ends_yes refuted spent league conflicts answer (inr (inl log)) =
-    ends-with Ends answer Refuted log.status refuted
-patterns-ends Ends ends_yes refuted spent league conflicts answer (inr (inr log)) =
-    ends-with Ends answer Spent log.status spent
+patterns-ends Ends ends_yes refuted spent league conflicts answer (inl counted) =
+    ends-with Ends answer Refuted counted.1.status refuted
+patterns-ends Ends ends_yes refuted spent league conflicts answer (inr searched) =
+    searched-ends Ends ends_yes refuted spent league conflicts answer searched.1
 
 patterned-ends : (Ends : Status → Type 0) → Ends File → Ends ReadFault → Ends Yes → Ends Refuted → Ends Spent
     → (store : Store) (instance : List ℕ)

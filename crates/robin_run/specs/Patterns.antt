@@ -1,4 +1,5 @@
--- What `patterns` promises: patterns that the pattern rows allow, a log that refutes these, or a budget that is spent.
+-- What `patterns` promises: patterns that the pattern rows allow, a log that refutes these or the league, or a budget that
+-- is spent.
 use Rattle.std.specs.Prelude.{◌≡◌, ℕ, List, [], ◌∷◌, Option, Some}
 use Rattle.league.specs.Instance.{Instance}
 use Rattle.command_line.specs.Words.{Command}

@@ -1,26 +1,34 @@
-use Rattle.std.proofs.Common.{◌≡◌, ℕ, Option, subst}
-use Rattle.league.specs.Instance.{Instance}
-use Rattle.pattern_search.specs.Answers.{IsPatternAnswer}
-use Rattle.pattern_search.specs.declared.found.PatternFound.{PatternFound}
-use Rattle.command_solve.proofs.PatternsFound.{all_tidy, refuted-clauses, spent-clauses}
+use Rattle.std.proofs.Common.{List, Option, subst}
+use Rattle.std.specs.Prelude.{IfSome}
+use Rattle.refutation.specs.Steps.{Step}
+use Rattle.venue_counts.specs.CountLogs.{IsRefuting}
+use Rattle.break_counts.specs.BreakCounts.{are_few}
+use Rattle.solve.proofs.CountingLemmas.{none_told}
+use Rattle.command_solve.proofs.PatternsFound.{replied-counted, replied-searched, some-told}
 use Rattle.command_solve.proofs.patterns_replies.found_reply.Goals as goal
 
--- what was found, where the variant is known
-here : (league : Instance) (limit : Option ℕ) (found variant : PatternFound) → found ≡ variant
-    → IsPatternAnswer league limit found → IsPatternAnswer league limit variant
-here league limit found variant same is = subst (λ (f : PatternFound). IsPatternAnswer league limit f) same is
+pub log_reply-requires-clause-named : goal.log_reply-requires-clause-named
+log_reply-requires-clause-named c =
+    (subst (λ (found : Option (List Step)). IfSome found (IsRefuting c.args.league.now)) c.in-Some.is
+    c.in_ok-counted.ensures.refuting).named
 
-pub log_reply-requires-clause-clauses : goal.log_reply-requires-clause-clauses
-log_reply-requires-clause-clauses c =
-    refuted-clauses c.args.encoding.now c.args.conflicts c.in-Refuted.log
-    (here c.args.encoding.now c.args.conflicts _ _ c.in-Refuted.is c.in_ok-patterns.ensures)
+pub log_reply-requires-clause-short : goal.log_reply-requires-clause-short
+log_reply-requires-clause-short c =
+    (subst (λ (found : Option (List Step)). IfSome found (IsRefuting c.args.league.now)) c.in-Some.is
+    c.in_ok-counted.ensures.refuting).short_lines
 
-pub log_reply-requires-in-Spent-clause-tidy : goal.log_reply-requires-in-Spent-clause-tidy
-log_reply-requires-in-Spent-clause-tidy c =
-    all_tidy c.args.encoding.now c.vars-vars.result c.in-Spent.log c.vars-vars.ensures.vars c.vars-vars.ensures.at_most
-    (here c.args.encoding.now c.args.conflicts _ _ c.in-Spent.is c.in_ok-patterns.ensures).tidy
+pub returns-in-Some : goal.returns-in-Some
+returns-in-Some c =
+    replied-counted c.args.league.now c.args.conflicts c.in-Some.log c.log_reply.result
+    c.in_ok-counted.ensures.instance
+    (some-told c.in_ok-counted.counted c.in-Some.log (are_few c.args.league.now) c.in-Some.is
+    c.in_ok-counted.ensures.few)
+    (subst (λ (found : Option (List Step)). IfSome found (IsRefuting c.args.league.now)) c.in-Some.is
+    c.in_ok-counted.ensures.refuting)
+    c.log_reply.ensures.status c.log_reply.ensures.text c.log_reply.ensures.reads_back
 
-pub log_reply-requires-in-Spent-clause-clauses : goal.log_reply-requires-in-Spent-clause-clauses
-log_reply-requires-in-Spent-clause-clauses c =
-    spent-clauses c.args.encoding.now c.args.conflicts c.in-Spent.log
-    (here c.args.encoding.now c.args.conflicts _ _ c.in-Spent.is c.in_ok-patterns.ensures)
+pub returns-in-None : goal.returns-in-None
+returns-in-None c =
+    replied-searched c.args.encoding.now c.args.league.now c.args.conflicts c.searched_reply.result c.requires.same
+    (none_told c.in_ok-counted.counted (are_few c.args.league.now) c.in-None.is c.in_ok-counted.ensures.few)
+    c.searched_reply.ensures
