@@ -205,6 +205,19 @@ found-excluded league played k conflicts answer ended found =
       | inr (inr spent) ↦ let same : Spent ≡ Refuted = sym spent.status ∙ ended in absurd (cc)
     ]
 
+found_by-planned : (league : Instance) (played : List Game) (k : ℕ) (limits : Option ℕ → Type 0) (answer : Answer)
+    → answer.status ≡ Yes → IsFoundBy league played k limits answer → IsPlanned league played k answer
+found_by-planned league played k limits answer ended (inl counted) =
+    let same : Refuted ≡ Yes = sym counted.status ∙ ended in absurd (cc)
+found_by-planned league played k limits answer ended (inr found) =
+    found-planned league played k found.1.0 answer ended found.1.2
+
+found_by-excluded : (league : Instance) (played : List Game) (k : ℕ) (limits : Option ℕ → Type 0) (answer : Answer)
+    → answer.status ≡ Refuted → IsFoundBy league played k limits answer → NoneResumes league (counts_of played) k
+found_by-excluded league played k limits answer ended (inl counted) = counted.none
+found_by-excluded league played k limits answer ended (inr found) =
+    found-excluded league played k found.1.0 answer ended found.1.2
+
 -- where the answer is a schedule, it is accepted and keeps the played games
 pub resumed-planned : (store : Store)
     (instance solution : List ℕ) (k : ℕ) (limits : Option ℕ → Type 0) (league : Instance) (played : List Game)
@@ -216,7 +229,7 @@ resumed-planned store instance solution k limits league played answer say ended 
     let found : IsFoundBy league played k limits answer =
     (of_known store instance solution k next league played answer say
     (plays-answered store instance solution k next answer answered given)).1 in
-    found-planned league played k found.0 answer ended found.2
+    found_by-planned league played k limits answer ended found
 
 -- where it is a refutation, no accepted schedule keeps them
 pub resumed-excluded : (store : Store)
@@ -230,7 +243,7 @@ resumed-excluded store instance solution k limits league played answer say ended
     let found : IsFoundBy league played k limits answer =
     (of_known store instance solution k next league played answer say
     (plays-answered store instance solution k next answer answered given)).1 in
-    found-excluded league played k found.0 answer ended found.2
+    found_by-excluded league played k limits answer ended found
 
 -- where the verdict on a log says yes, no accepted schedule keeps the played games
 pub audited-excluded : (store : Store) (room : Option ℕ)
@@ -295,6 +308,21 @@ near-excluded league played k conflicts may_stop answer ended near =
       | inr (inr spent) ↦ let same : Spent ≡ Refuted = sym spent.status ∙ ended in absurd (cc)
     ]
 
+near_by-season : (league : Instance) (played : List Game) (k : ℕ) (limits : Option ℕ → Type 0) (may_stop : Type 0)
+    (answer : Answer) → answer.status ≡ Yes → IsNearBy league played k limits may_stop answer
+    → IsNearSeason league played k may_stop answer
+near_by-season league played k limits may_stop answer ended (inl counted) =
+    let same : Refuted ≡ Yes = sym counted.status ∙ ended in absurd (cc)
+near_by-season league played k limits may_stop answer ended (inr near) =
+    near-season league played k near.1.0 may_stop answer ended near.1.2
+
+near_by-excluded : (league : Instance) (played : List Game) (k : ℕ) (limits : Option ℕ → Type 0) (may_stop : Type 0)
+    (answer : Answer) → answer.status ≡ Refuted → IsNearBy league played k limits may_stop answer
+    → NoneResumes league (counts_of played) k
+near_by-excluded league played k limits may_stop answer ended (inl counted) = counted.none
+near_by-excluded league played k limits may_stop answer ended (inr near) =
+    near-excluded league played k near.1.0 may_stop answer ended near.1.2
+
 -- where the answer is a schedule, it is accepted and keeps the played games
 pub neared-season : (store : Store)
     (instance solution : List ℕ) (k : ℕ) (limits : Option ℕ → Type 0) (may_stop : Type 0) (league : Instance) (played : List Game)
@@ -306,7 +334,7 @@ neared-season store instance solution k limits may_stop league played answer say
     let near : IsNearBy league played k limits may_stop answer =
     (of_known store instance solution k next league played answer say
     (plays-answered store instance solution k next answer answered given)).1 in
-    near-season league played k near.0 may_stop answer ended near.2
+    near_by-season league played k limits may_stop answer ended near
 
 -- where it is a refutation, no accepted schedule keeps them
 pub neared-excluded : (store : Store)
@@ -320,4 +348,4 @@ neared-excluded store instance solution k limits may_stop league played answer s
     let near : IsNearBy league played k limits may_stop answer =
     (of_known store instance solution k next league played answer say
     (plays-answered store instance solution k next answer answered given)).1 in
-    near-excluded league played k near.0 may_stop answer ended near.2
+    near_by-excluded league played k limits may_stop answer ended near

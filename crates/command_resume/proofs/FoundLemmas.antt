@@ -28,6 +28,7 @@ use Rattle.refutation.specs.Texts.{log_text}
 use Rattle.clause_search.specs.Answers.{IsSpentAt}
 use Rattle.clause_search.specs.News.{IsTidy}
 use Rattle.clause_search.proofs.SearchLemmas.{news-clauses}
+use Rattle.break_counts.specs.BreakCounts.{are_few}
 use Rattle.resume_rows.specs.Kept.{resume_rows}
 use Rattle.resume.specs.Answers.{IsResumedSeason, RefutesResuming}
 use Rattle.command_resume.specs.Resumed.{IsFound, IsFoundBy}
@@ -142,10 +143,10 @@ replied-spent {E} league played k conflicts steps (Ok reply) spent no_plan statu
 }
 replied-spent {E} league played k conflicts steps (Err error) spent no_plan status text reads_back = tt
 
--- a reply within the limit to which the search kept
+-- a reply within the limit to which the search kept, of a league that allows its teams enough breaks
 pub replied-by : {E : Type 0} (league : Instance) (played : List Game) (k : ℕ) (limits : Option ℕ → Type 0)
-    (result : Result Reply E) (conflicts : Option ℕ) → limits conflicts
+    (result : Result Reply E) (conflicts : Option ℕ) → are_few league ≡ false → limits conflicts
     → IfOk result (λ reply. IsFound league played k conflicts (answer_of reply))
     → IfOk result (λ reply. IsFoundBy league played k limits (answer_of reply))
-replied-by league played k limits (Ok reply) conflicts is found = (conflicts, is, found)
-replied-by league played k limits (Err error) conflicts is found = tt
+replied-by league played k limits (Ok reply) conflicts enough is found = inr (enough, (conflicts, is, found))
+replied-by league played k limits (Err error) conflicts enough is found = tt

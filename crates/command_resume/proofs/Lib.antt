@@ -1,5 +1,7 @@
 -- What is found, answered:
 mod FoundLemmas
+-- Leagues that are counted out, answered:
+mod CountLemmas
 -- What is found near the old plan, answered:
 mod NearLemmas
 -- The stages, one after another:

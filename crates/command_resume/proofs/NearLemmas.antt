@@ -22,6 +22,7 @@ use Rattle.answers.specs.declared.status.Status.TheVariants.{Yes, Refuted, Spent
 use Rattle.refutation.specs.Logs.{log_of}
 use Rattle.refutation.specs.Steps.{Step}
 use Rattle.refutation.specs.Texts.{log_text}
+use Rattle.break_counts.specs.BreakCounts.{are_few}
 use Rattle.kept_descent.specs.Nearing.{IsNearest}
 use Rattle.resume.specs.Answers.{IsPlan, IsResumed, IsResumedSeason}
 use Rattle.resume.specs.Near.{IsNearestAnswer, IsOpenNear, IsSettledNear, changed, open_games}
@@ -176,16 +177,24 @@ replied-spent {E} played k settled resumed log (Ok reply) is status text reads_b
     subst (λ (one : Resumed). IsWritten played k settled one (answer_of reply)) (sym is) (status, text, reads_back)
 replied-spent {E} played k settled resumed log (Err error) is status text reads_back = tt
 
--- a reply within the limit to which the search kept
+-- a reply within the limit to which the search kept, of a league that allows its teams enough breaks
 pub near-by : {E : Type 0} (league : Instance) (played : List Game) (k : ℕ) (limits : Option ℕ → Type 0)
     (may_stop : Type 0) (near : Neared) (result : Result Reply E) (conflicts : Option ℕ) → IsTeamCount league.n
-    → limits conflicts → IsResumed league played k conflicts near.answer → IsSettledNear league k played near
+    → are_few league ≡ false → limits conflicts → IsResumed league played k conflicts near.answer → IsSettledNear league k played near
     → IsOpenNear league k played may_stop near → (IsAccepted league (counts_of played) → IsPlan played near.answer)
     → IfOk result (λ reply. IsWritten played k near.settled near.answer (answer_of reply))
     → IfOk result (λ reply. IsNearBy league played k limits may_stop (answer_of reply))
-near-by {E} league played k limits may_stop near (Ok reply) conflicts teams kept is settled unsettled plan written = (
-  conflicts,
-  kept,
-  near-is league played k conflicts may_stop near.answer near.settled (answer_of reply) teams is settled unsettled plan written,
-)
-near-by {E} league played k limits may_stop near (Err error) conflicts teams kept is settled unsettled plan written = tt
+near-by {E} league played k limits may_stop near (Ok reply) conflicts teams enough kept is settled unsettled plan
+    written =
+    inr (
+      enough,
+      (
+        conflicts,
+        kept,
+        near-is league played k conflicts may_stop near.answer near.settled (answer_of reply) teams is settled unsettled
+            plan written,
+      ),
+    )
+near-by {E} league played k limits may_stop near (Err error) conflicts teams enough kept is settled unsettled plan
+    written =
+    tt

@@ -6,6 +6,7 @@ pub mod Seasons
 pub mod Resumed
 pub mod Near
 pub mod Audited
--- Kept inside (what an answer is written as, and how fields are seen):
+-- Kept inside (what an answer is written as, how fields are seen, and logs of leagues that are counted out):
 pub mod SeenSeason
 pub mod NearWritten
+pub mod Counted

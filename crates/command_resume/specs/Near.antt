@@ -13,10 +13,11 @@ use Rattle.robinx_form.specs.Texts.{solution_text}
 use Rattle.answers.specs.Reply.{Answer}
 use Rattle.answers.specs.Stages.{◌>>=◌, Outcome}
 use Rattle.answers.specs.declared.status.Status.TheVariants.{Yes}
+use Rattle.break_counts.specs.BreakCounts.{are_few}
 use Rattle.kept_descent.specs.Nearing.{IsNearest}
 use Rattle.resume.specs.Answers.{IsResumedSeason}
 use Rattle.resume.specs.Near.{changed, open_games}
-use Rattle.command_resume.specs.Resumed.{IsBudgetSpent, IsExcluded}
+use Rattle.command_resume.specs.Resumed.{IsBudgetSpent, IsCountedOut, IsExcluded}
 use Rattle.command_resume.specs.Seasons.{plays}
 
 -- the comment behind a season: how many games are changed, of how many that are still to come, and whether it is settled
@@ -67,11 +68,13 @@ pub record IsNear (league : Instance) (played : List Game) (k : ℕ) (conflicts 
       ⊎ (IsExcluded league played k conflicts answer ⊎ IsBudgetSpent league played k conflicts answer)
   pub plan : IsAccepted league (counts_of played) → IsUnchanged league played k answer
 
--- what is found near the old plan, by a search that keeps to one of these limits, in a run that may be stopped where
--- `may_stop` says so
+-- The league is counted out, whatever the limits; or it allows its teams enough breaks, and this is found near the old
+-- plan, by a search that keeps to one of the limits, in a run that may be stopped where `may_stop` says so.
 abbrev pub IsNearBy : Instance → List Game → ℕ → (Option ℕ → Type 0) → Type 0 → Outcome
 IsNearBy league played k limits may_stop answer =
-    (conflicts : Option ℕ) × limits conflicts × IsNear league played k conflicts may_stop answer
+    IsCountedOut league played k answer
+    ⊎ ((are_few league ≡ false)
+    × ((conflicts : Option ℕ) × limits conflicts × IsNear league played k conflicts may_stop answer))
 
 -- `resume --near`, over what a store shows
 abbrev pub neared : Store → List ℕ → List ℕ → ℕ → (Option ℕ → Type 0) → Type 0 → Outcome

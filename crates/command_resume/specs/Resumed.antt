@@ -1,5 +1,5 @@
 -- What `resume` answers: its stages in their order, and what is found of a league whose first slots are played.
-use Rattle.std.specs.Prelude.{◌≡◌, ℕ, ◌⊎◌, List, Option, Some, Ok}
+use Rattle.std.specs.Prelude.{◌≡◌, ℕ, ◌⊎◌, true, false, List, Option, Some, Ok}
 use Rattle.std.specs.Io.KnownBytes.{Appends}
 use Rattle.robin_io.specs.Outside.{Output, Store}
 use Rattle.league.specs.Accepted.{IsAccepted, objective}
@@ -17,8 +17,12 @@ use Rattle.encoding_base.specs.Variables.{var_count}
 use Rattle.refutation.specs.Steps.{Step}
 use Rattle.refutation.specs.Logs.{log_of}
 use Rattle.refutation.specs.Texts.{log_text}
+use Rattle.refutation.specs.Verdict.{verdict_of}
+use Rattle.refutation.specs.declared.verdict.Verdict.TheVariants.{Accepted}
+use Rattle.break_counts.specs.BreakCounts.{are_few}
 use Rattle.clause_search.specs.Answers.{IsSpentAt}
 use Rattle.resume_rows.specs.Kept.{resume_rows}
+use Rattle.resume_rows.specs.Resumable.{NoneResumes}
 use Rattle.resume.specs.Answers.{IsResumedSeason, RefutesResuming}
 use Rattle.command_resume.specs.Seasons.{plays}
 
@@ -70,10 +74,24 @@ pub record IsFound (league : Instance) (played : List Game) (k : ℕ) (conflicts
       ⊎ (IsExcluded league played k conflicts answer ⊎ IsBudgetSpent league played k conflicts answer)
   pub plan : IsAccepted league (counts_of played) → IsOldPlan league played answer
 
--- what is found, by a search that keeps to one of these limits
+-- A league that allows its teams too few breaks is counted out, whatever is played: a log that is accepted over the
+-- resume rows is written, and reads back as it. So no schedule that the league accepts keeps the played games.
+pub record IsCountedOut (league : Instance) (played : List Game) (k : ℕ) (answer : Answer) : Type 0 where
+  pub few : are_few league ≡ true
+  pub steps : List Step
+  pub accepted : verdict_of (resume_rows league (counts_of played) k) (var_count league) steps ≡ Accepted
+  pub none : NoneResumes league (counts_of played) k
+  pub status : answer.status ≡ Refuted
+  pub text : answer.text ≡ log_text steps
+  pub reads_back : log_of answer.text ≡ Ok steps
+
+-- The league is counted out, whatever the limits; or it allows its teams enough breaks, and this is found, by a search
+-- that keeps to one of the limits.
 abbrev pub IsFoundBy : Instance → List Game → ℕ → (Option ℕ → Type 0) → Outcome
 IsFoundBy league played k limits answer =
-    (conflicts : Option ℕ) × limits conflicts × IsFound league played k conflicts answer
+    IsCountedOut league played k answer
+    ⊎ ((are_few league ≡ false)
+    × ((conflicts : Option ℕ) × limits conflicts × IsFound league played k conflicts answer))
 
 -- ---- stages
 

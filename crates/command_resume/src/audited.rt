@@ -24,7 +24,7 @@ use robin_io::Shelf;
 use std::alloc::{AllocError, Global};
 
 /// The resume rows, which are few enough.
-fn system_of(
+pub(crate) fn system_of(
     alloc: Global,
     league: &League,
     played: &Schedule,

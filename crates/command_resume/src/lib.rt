@@ -6,6 +6,8 @@
 #![tactic(auto)]
 
 mod audited;
+mod behind;
+mod counted;
 mod near;
 mod near_replies;
 mod replies;

@@ -1,17 +1,20 @@
 //! The stages of `resume --near`.
-ghost use Rattle.std.specs.Prelude.{◌≡◌, ◌+◌, ◌≤◌, ℕ, List, IfOk, length};
+ghost use Rattle.std.specs.Prelude.{◌≡◌, ◌+◌, ◌≤◌, ℕ, false, List, IfOk, length};
 ghost use Rattle.std.specs.List.{All};
 ghost use Rattle.robin_io.specs.Outside.{store_between};
 ghost use Rattle.league.specs.Counts as counts;
 ghost use Rattle.league.specs.Instance.{IsGame};
 ghost use Rattle.robinx_read.specs.declared.instance.TheConstants.{INSTANCE_LIMIT, SOLUTION_LIMIT};
 ghost use Rattle.answers.specs.SeenReply.{answer_of, Answers};
+ghost use Rattle.break_counts.specs.BreakCounts.{are_few};
 ghost use Rattle.resume_rows.specs.Kept as kept;
 ghost use Rattle.robin_watch.specs.Limits.{IsKeptTo};
 ghost use Rattle.command_resume.specs.Near.{IsNearBy, neared};
 ghost use Rattle.encoding.specs.Limit.{most_terms};
 
+use crate::counted::count_out;
 use crate::near_replies::near_reply;
+use crate::replies::counted_reply;
 use crate::season::season_in;
 use answers::{NoValue, Reply};
 use encoding::EncodeFault;
@@ -30,7 +33,8 @@ pub struct NearResumption {
     pub budgets: Budgets,
 }
 
-/// Resumes a season whose resume rows are few enough near its old plan, and answers it.
+/// Resumes a season whose resume rows are few enough near its old plan, unless its league is counted out, and answers
+/// it.
 fn near_of<W: Watch>(
     alloc: Global,
     league: &League,
@@ -43,6 +47,31 @@ fn near_of<W: Watch>(
     requires fit { All (IsGame league.now.n) played.now }
     requires slots { k ≤ counts.slot_count league.now.n }
     requires small { kept.resume_size league.now k ≤ most_terms }
+    ensures { IfOk result (λ reply. IsNearBy league.now played.now k
+        (IsKeptTo budgets.conflicts (W.may_stop watch.now)) (W.may_stop watch.now) (answer_of reply)) }
+{
+    let counted = count_out(alloc, league, played, k)?;
+    match counted {
+        Some(log) => counted_reply(alloc, &log),
+        None => nearest_of(alloc, league, played, k, budgets, watch),
+    }
+}
+
+/// Resumes a season whose resume rows are few enough near its old plan, where its league isn't counted out, and answers
+/// it.
+fn nearest_of<W: Watch>(
+    alloc: Global,
+    league: &League,
+    played: &Schedule,
+    k: u16,
+    budgets: Budgets,
+    watch: &W,
+) -> Result<Reply, AllocError>
+    requires few { length played.now ≤ 10000 }
+    requires fit { All (IsGame league.now.n) played.now }
+    requires slots { k ≤ counts.slot_count league.now.n }
+    requires small { kept.resume_size league.now k ≤ most_terms }
+    requires enough { are_few league.now ≡ false }
     ensures { IfOk result (λ reply. IsNearBy league.now played.now k
         (IsKeptTo budgets.conflicts (W.may_stop watch.now)) (W.may_stop watch.now) (answer_of reply)) }
 {

@@ -5,18 +5,19 @@ ghost use Rattle.league.specs.Accepted.{IsAccepted};
 ghost use Rattle.league.specs.Counts.{counts_of};
 ghost use Rattle.robinx_form.specs.Texts as solutions;
 ghost use Rattle.answers.specs.SeenReply.{answer_of};
-ghost use Rattle.answers.specs.declared.status.Status.TheVariants.{Yes};
+ghost use Rattle.answers.specs.declared.status.Status.TheVariants.{Refuted, Yes};
 ghost use Rattle.clause_search.specs.News.{IsTidy};
 ghost use Rattle.refutation.specs.Logs.{log_of};
-ghost use Rattle.refutation.specs.Steps.{is_linear};
+ghost use Rattle.refutation.specs.Steps.{NamesRows, is_linear};
 ghost use Rattle.refutation.specs.Texts as logs;
+ghost use Rattle.refutation.specs.Writable.{HasShortLines};
 ghost use Rattle.resume.specs.Answers.{IsPlan, IsResumed};
 ghost use Rattle.command_resume.specs.Resumed.{IsFound};
 
 use answers::{Reply, Status};
 use clause_search::tidy_text;
 use league::{League, Schedule};
-use refutation::Log;
+use refutation::{Log, log_text};
 use resume::Resumed;
 use robinx_write::solution_text;
 use std::alloc::{AllocError, Global};
@@ -44,6 +45,21 @@ pub(crate) fn log_reply(alloc: Global, status: Status, log: &Log) -> Result<Repl
 {
     let text = tidy_text(alloc, log)?;
     Ok(Reply { status, text })
+}
+
+/// A log of a league that is counted out.
+pub(crate) fn counted_reply(alloc: Global, log: &Log) -> Result<Reply, AllocError>
+    requires named { All NamesRows log.now }
+    requires short { HasShortLines log.now }
+    ensures status { IfOk result (λ reply. (answer_of reply).status ≡ Refuted) }
+    ensures text { IfOk result (λ reply. (answer_of reply).text ≡ logs.log_text log.now) }
+    ensures reads_back { IfOk result (λ reply. log_of (answer_of reply).text ≡ Ok log.now) }
+{
+    let text = log_text(alloc, log)?;
+    Ok(Reply {
+        status: Status::Refuted,
+        text,
+    })
 }
 
 /// What is found of a league whose first k slots are played, whatever the budget within which it was found.

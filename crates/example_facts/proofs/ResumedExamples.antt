@@ -9,6 +9,7 @@ use Rattle.example_facts.proofs.Runs.{ended_with, store_of, written_between}
 use Rattle.robin_run.specs.Run.{Writes}
 use Rattle.league.specs.Accepted.{IsAccepted}
 use Rattle.league.specs.Counts.{Counts, counts_of}
+use Rattle.league.specs.declared.game.Game.{Game}
 use Rattle.league.proofs.AcceptedLemmas.{MeetsHard-from_sum}
 use Rattle.robinx_tags.specs.Pieces.{pieces, pieces_from}
 use Rattle.robinx_tags.specs.Tags.{attributes_at}
@@ -34,8 +35,10 @@ use Rattle.resume_rows.specs.Kept.{is_played, resume_rows}
 use Rattle.resume.specs.Answers.{IsResumed}
 use Rattle.resume.specs.declared.resumed.Resumed.TheVariants as resumed
 use Rattle.command_resume.specs.Audited.{IsVerdict, IsWellFormedAudit, audited}
-use Rattle.command_resume.specs.Resumed.{IsBudgetSpent, IsExcluded, IsFound, IsKeptSeason, IsOldPlan, IsPlanned}
+use Rattle.command_resume.specs.Near.{IsNearBy}
+use Rattle.command_resume.specs.Resumed.{IsBudgetSpent, IsExcluded, IsFound, IsFoundBy, IsKeptSeason, IsOldPlan, IsPlanned}
 use Rattle.command_resume.specs.Resumed.{resumed as resumes}
+use Rattle.example_facts.proofs.CommandExamples.{false_true, one_break}
 use Rattle.example_facts.proofs.SolveExamples.{fits_home, home, ordered_home, out}
 use Rattle.example_facts.proofs.SolveExamples.{quiet_pairs, season_pairs, text}
 use Rattle.example_facts.proofs.ResumeExamples.{accepted_home, contents, crowded, crowded_file, first, league}
@@ -209,6 +212,17 @@ spent-first = record { steps = []; spent = spent_first; status = refl; text = re
 pub found-open : IsFound league first 0 (Some 0) open_log
 found-open = record { found = inr (inr spent-first); plan = λ accepted. absurd (refuses_first accepted) }
 
+-- whatever is played of a league that allows its teams too few breaks, it is refuted
+pub found-few : (played : List Game) (k : ℕ) (limits : Option ℕ → Type 0) (answer : Answer)
+    → IsFoundBy one_break played k limits answer → answer.status ≡ Refuted
+found-few played k limits answer (inl counted) = counted.status
+found-few played k limits answer (inr found) = absurd (false_true (sym found.0))
+
+pub near-few : (played : List Game) (k : ℕ) (limits : Option ℕ → Type 0) (may_stop : Type 0) (answer : Answer)
+    → IsNearBy one_break played k limits may_stop answer → answer.status ≡ Refuted
+near-few played k limits may_stop answer (inl counted) = counted.status
+near-few played k limits may_stop answer (inr found) = absurd (false_true (sym found.0))
+
 -- three answers, each to its season
 pub resumed-each : IsResumed league first 1 None (resumed.Schedule home 4)
     × IsResumed league crowded 1 (Some 0) (resumed.Refuted log) × IsResumed league first 0 (Some 0) (resumed.Spent [])
@@ -317,7 +331,7 @@ unfolding attributes_at pieces_from walk
 resumed-stages limits conflicts is = inl (
   league_file,
   file_league,
-  inl (lit≤ tt, inl (small, inl (played_file, file_played, (conflicts, is, found-first conflicts)))),
+  inl (lit≤ tt, inl (small, inl (played_file, file_played, inr (refl, (conflicts, is, found-first conflicts))))),
 )
 
 pub audited-stages : audited (store_of contents nowhere) (Some 64) (codes "league") (codes "crowded") 1 (codes "log") accepted_reply

@@ -468,6 +468,14 @@ resuming-ends Ends ends_yes refuted spent league played k conflicts answer found
       | inr (inr log) ↦ ends-with Ends answer Spent log.status spent
     ]
 
+resuming_by-ends : (Ends : Status → Type 0) → Ends Yes → Ends Refuted → Ends Spent → (league : Instance)
+    (played : List Game) (k : ℕ) (limits : Option ℕ → Type 0) (answer : Answer)
+    → resuming.IsFoundBy league played k limits answer → Ends answer.status
+resuming_by-ends Ends ends_yes refuted spent league played k limits answer (inl counted) =
+    ends-with Ends answer Refuted counted.status refuted
+resuming_by-ends Ends ends_yes refuted spent league played k limits answer (inr found) =
+    resuming-ends Ends ends_yes refuted spent league played k found.1.0 answer found.1.2
+
 resumed-ends : (Ends : Status → Type 0) → Ends File → Ends ReadFault → Ends Yes → Ends Refuted → Ends Spent
     → (store : Store)
     (instance solution : List ℕ) (k : ℕ) (limits : Option ℕ → Type 0) (answer : Answer)
@@ -476,7 +484,7 @@ resumed-ends Ends file fault ends_yes refuted spent store instance solution k li
     given =
     plays-ends Ends file fault store instance solution k
     (λ league played bytes. resuming.IsFoundBy league played k limits) answer
-    (λ league played bytes found. resuming-ends Ends ends_yes refuted spent league played k found.0 answer found.2)
+    (λ league played bytes found. resuming_by-ends Ends ends_yes refuted spent league played k limits answer found)
     given
 
 nearing-ends : (Ends : Status → Type 0) → Ends Yes → Ends Refuted → Ends Spent → (league : Instance)
@@ -489,6 +497,14 @@ nearing-ends Ends ends_yes refuted spent league played k conflicts may_stop answ
       | inr (inr log) ↦ ends-with Ends answer Spent log.status spent
     ]
 
+nearing_by-ends : (Ends : Status → Type 0) → Ends Yes → Ends Refuted → Ends Spent → (league : Instance)
+    (played : List Game) (k : ℕ) (limits : Option ℕ → Type 0) (may_stop : Type 0) (answer : Answer)
+    → nearing.IsNearBy league played k limits may_stop answer → Ends answer.status
+nearing_by-ends Ends ends_yes refuted spent league played k limits may_stop answer (inl counted) =
+    ends-with Ends answer Refuted counted.status refuted
+nearing_by-ends Ends ends_yes refuted spent league played k limits may_stop answer (inr found) =
+    nearing-ends Ends ends_yes refuted spent league played k found.1.0 may_stop answer found.1.2
+
 neared-ends : (Ends : Status → Type 0) → Ends File → Ends ReadFault → Ends Yes → Ends Refuted → Ends Spent
     → (store : Store)
     (instance solution : List ℕ) (k : ℕ) (limits : Option ℕ → Type 0) (may_stop : Type 0) (answer : Answer)
@@ -497,7 +513,7 @@ neared-ends Ends file fault ends_yes refuted spent store instance solution k lim
     given =
     plays-ends Ends file fault store instance solution k
     (λ league played bytes. nearing.IsNearBy league played k limits may_stop) answer
-    (λ league played bytes found. nearing-ends Ends ends_yes refuted spent league played k found.0 may_stop answer found.2)
+    (λ league played bytes found. nearing_by-ends Ends ends_yes refuted spent league played k limits may_stop answer found)
     given
 
 audited-ends : (Ends : Status → Type 0) → Ends File → Ends ReadFault → Ends Yes → Ends No

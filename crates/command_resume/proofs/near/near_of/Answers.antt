@@ -1,11 +1,27 @@
-use Rattle.command_resume.proofs.NearLemmas.{near-by}
+use Rattle.std.proofs.Common.{List, Option, subst}
+use Rattle.std.specs.Prelude.{IfSome}
+use Rattle.refutation.specs.Steps.{Step}
+use Rattle.command_resume.specs.Counted.{CountsOut}
+use Rattle.command_resume.proofs.CountLemmas.{near-counted}
 use Rattle.command_resume.proofs.near.near_of.Goals as goal
 
-pub near_reply-requires : goal.near_reply-requires
-near_reply-requires g c = record { resumed = (c.in-Ok.ensures.answer.0, c.in-Ok.ensures.answer.2) }
+pub counted_reply-requires-clause-named : goal.counted_reply-requires-clause-named
+counted_reply-requires-clause-named g c =
+    (subst (λ (found : Option (List Step)). IfSome found (CountsOut c.args.league.now c.args.played.now c.args.k))
+    c.in-Some.is c.in_ok-counted.ensures.counted).refutes.named
 
-pub returns-in-Ok : goal.returns-in-Ok
-returns-in-Ok g c =
-    near-by c.args.league.now c.args.played.now c.args.k _ (g.W.Watch.may_stop c.args.watch.now) c.in-Ok.neared
-    c.near_reply.result c.in-Ok.ensures.answer.0 c.n-n.ensures.instance.teams c.in-Ok.ensures.answer.1
-    c.in-Ok.ensures.answer.2 c.in-Ok.ensures.settled c.in-Ok.ensures.open_yet c.in-Ok.ensures.plan c.near_reply.ensures
+pub counted_reply-requires-clause-short : goal.counted_reply-requires-clause-short
+counted_reply-requires-clause-short g c =
+    (subst (λ (found : Option (List Step)). IfSome found (CountsOut c.args.league.now c.args.played.now c.args.k))
+    c.in-Some.is c.in_ok-counted.ensures.counted).refutes.short_lines
+
+pub nearest_of-requires-clause-enough : goal.nearest_of-requires-clause-enough
+nearest_of-requires-clause-enough g c = c.in_ok-counted.ensures.enough c.in-None.is
+
+pub returns-in-Some : goal.returns-in-Some
+returns-in-Some g c =
+    near-counted c.args.league.now c.args.played.now c.args.k _ (g.W.Watch.may_stop c.args.watch.now) c.in-Some.log
+    c.counted_reply.result c.in_ok-counted.ensures.instance
+    (subst (λ (found : Option (List Step)). IfSome found (CountsOut c.args.league.now c.args.played.now c.args.k))
+    c.in-Some.is c.in_ok-counted.ensures.counted)
+    c.counted_reply.ensures.status c.counted_reply.ensures.text c.counted_reply.ensures.reads_back

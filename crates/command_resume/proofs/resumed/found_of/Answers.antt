@@ -1,10 +1,27 @@
-use Rattle.command_resume.proofs.FoundLemmas.{replied-by}
+use Rattle.std.proofs.Common.{List, Option, subst}
+use Rattle.std.specs.Prelude.{IfSome}
+use Rattle.refutation.specs.Steps.{Step}
+use Rattle.command_resume.specs.Counted.{CountsOut}
+use Rattle.command_resume.proofs.CountLemmas.{replied-counted}
 use Rattle.command_resume.proofs.resumed.found_of.Goals as goal
 
-pub found_reply-requires-clause-resumed : goal.found_reply-requires-clause-resumed
-found_reply-requires-clause-resumed g c = (c.in-Ok.ensures.answer.0, c.in-Ok.ensures.answer.2)
+pub counted_reply-requires-clause-named : goal.counted_reply-requires-clause-named
+counted_reply-requires-clause-named g c =
+    (subst (λ (found : Option (List Step)). IfSome found (CountsOut c.args.league.now c.args.played.now c.args.k))
+    c.in-Some.is c.in_ok-counted.ensures.counted).refutes.named
 
-pub returns-in-Ok : goal.returns-in-Ok
-returns-in-Ok g c =
-    replied-by c.args.league.now c.args.played.now c.args.k _ c.found_reply.result c.in-Ok.ensures.answer.0
-    c.in-Ok.ensures.answer.1 (c.found_reply.ensures c.in-Ok.ensures.answer.0 c.in-Ok.ensures.answer.2)
+pub counted_reply-requires-clause-short : goal.counted_reply-requires-clause-short
+counted_reply-requires-clause-short g c =
+    (subst (λ (found : Option (List Step)). IfSome found (CountsOut c.args.league.now c.args.played.now c.args.k))
+    c.in-Some.is c.in_ok-counted.ensures.counted).refutes.short_lines
+
+pub resumed_of-requires-clause-enough : goal.resumed_of-requires-clause-enough
+resumed_of-requires-clause-enough g c = c.in_ok-counted.ensures.enough c.in-None.is
+
+pub returns-in-Some : goal.returns-in-Some
+returns-in-Some g c =
+    replied-counted c.args.league.now c.args.played.now c.args.k _ c.in-Some.log c.counted_reply.result
+    c.in_ok-counted.ensures.instance
+    (subst (λ (found : Option (List Step)). IfSome found (CountsOut c.args.league.now c.args.played.now c.args.k))
+    c.in-Some.is c.in_ok-counted.ensures.counted)
+    c.counted_reply.ensures.status c.counted_reply.ensures.text c.counted_reply.ensures.reads_back
