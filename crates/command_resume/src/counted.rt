@@ -77,11 +77,7 @@ fn refuting(
 ///
 /// # Errors
 /// Only where memory runs out.
-fn if_accepted(
-    alloc: Global,
-    system: &ResumeSystem,
-    log: Log,
-) -> Result<Option<Log>, AllocError>
+fn if_accepted(alloc: Global, system: &ResumeSystem, log: Log) -> Result<Option<Log>, AllocError>
     ensures { IfOk result (λ found.
         IfSome found (RefutesSeason system.now.league system.now.played system.now.k)) }
 {
