@@ -278,13 +278,13 @@ begun-ends Ends file fault ends_yes ends_no refuted spent store instance solutio
     (λ second start at_start. started-ends Ends file ends_yes ends_no refuted spent league budgets may_stop start answer at_start)
     at_league) given
 
-searched-ends : (Ends : Status → Type 0) → Ends Yes → Ends Refuted → Ends Spent → (league : Instance)
+patterns_searched-ends : (Ends : Status → Type 0) → Ends Yes → Ends Refuted → Ends Spent → (league : Instance)
     (conflicts : Option ℕ) (answer : Answer) → AreSearched league conflicts answer → Ends answer.status
-searched-ends Ends ends_yes refuted spent league conflicts answer (inl found) = ends-with Ends answer Yes found.status
+patterns_searched-ends Ends ends_yes refuted spent league conflicts answer (inl found) = ends-with Ends answer Yes found.status
     ends_yes
-searched-ends Ends ends_yes refuted spent league conflicts answer (inr (inl log)) =
+patterns_searched-ends Ends ends_yes refuted spent league conflicts answer (inr (inl log)) =
     ends-with Ends answer Refuted log.status refuted
-searched-ends Ends ends_yes refuted spent league conflicts answer (inr (inr log)) =
+patterns_searched-ends Ends ends_yes refuted spent league conflicts answer (inr (inr log)) =
     ends-with Ends answer Spent log.status spent
 
 patterns-ends : (Ends : Status → Type 0) → Ends Yes → Ends Refuted → Ends Spent → (league : Instance)
@@ -292,7 +292,7 @@ patterns-ends : (Ends : Status → Type 0) → Ends Yes → Ends Refuted → End
 patterns-ends Ends ends_yes refuted spent league conflicts answer (inl counted) =
     ends-with Ends answer Refuted counted.1.status refuted
 patterns-ends Ends ends_yes refuted spent league conflicts answer (inr searched) =
-    searched-ends Ends ends_yes refuted spent league conflicts answer searched.1
+    patterns_searched-ends Ends ends_yes refuted spent league conflicts answer searched.1
 
 patterned-ends : (Ends : Status → Type 0) → Ends File → Ends ReadFault → Ends Yes → Ends Refuted → Ends Spent
     → (store : Store) (instance : List ℕ)
