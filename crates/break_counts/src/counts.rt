@@ -7,9 +7,10 @@ ghost use Rattle.venue_counts.specs.CountLogs.{IsRefuting};
 ghost use Rattle.break_counts.specs.BreakCounts.{are_few};
 
 use crate::lines::has_short_lines;
-use crate::log::log_of;
+use crate::log::{log_of, log_of_sum};
 use crate::searched::searched;
 use crate::shortage::find_shortage;
+use crate::sums::find_sum;
 use encoding::{Encoding, encode_small};
 use league::League;
 use refutation::{Log, Verdict};
@@ -46,6 +47,26 @@ pub fn break_count(alloc: Global, league: &League) -> Result<Option<Log>, AllocE
     }
     let log = searched(alloc, &encoding)?;
     Ok(Some(log))
+}
+
+/// A log that refutes a league, where hard constraints BR1 and BR2 that are added up allow its teams too few breaks, and
+/// such are found. It is checked before it is given.
+///
+/// # Errors
+/// Only where memory runs out.
+pub fn break_sum(alloc: Global, league: &League) -> Result<Option<Log>, AllocError>
+    requires small { encoding_size league.now ≤ most_terms }
+    ensures refuting { IfOk result (λ found. IfSome found (IsRefuting league.now)) }
+
+    // What holds of every league.
+    ensures instance { IsInstance league.now }
+{
+    let Some(sum) = find_sum(alloc, league)? else {
+        return Ok(None);
+    };
+    let encoding = encode_small(alloc, league)?;
+    let log = log_of_sum(alloc, league, &encoding, &sum)?;
+    if_accepted(alloc, &encoding, log)
 }
 
 /// A log, if it is accepted over the rows of a league and its text can be written.

@@ -18,10 +18,11 @@ mod log;
 mod searched;
 mod shortage;
 mod stretch;
+mod sums;
 mod writer;
 
 pub use clique::add_clique;
-pub use counts::break_count;
+pub use counts::{break_count, break_sum};
 pub use cover::covers;
 pub use frame::Frame;
 pub use laws::few_breaks_allow_none;

@@ -8,6 +8,7 @@ use crate::clique::add_clique;
 use crate::cover::{covers, has};
 use crate::frame::Frame;
 use crate::stretch::Stretch;
+use crate::sums::{Sum, is_covered};
 use crate::writer::Writer;
 use encoding::Encoding;
 use league::{Class, League, Side};
@@ -36,6 +37,39 @@ pub(crate) fn log_of(
     requires season { AreInSeason league.now.n stretches.now }
 {
     let counted = counted_teams(alloc, league, encoding, stretches, class)?;
+    log_over(alloc, league, encoding, stretches, counted)
+}
+
+/// The log of bounds that are added up.
+///
+/// # Errors
+/// Only where memory runs out.
+pub(crate) fn log_of_sum(
+    alloc: Global,
+    league: &League,
+    encoding: &Encoding,
+    sum: &Sum,
+) -> Result<Log, AllocError>
+    requires season { AreInSeason league.now.n sum.now.stretches.items }
+{
+    let counted = added_teams(alloc, league, encoding, sum)?;
+    log_over(alloc, league, encoding, &sum.stretches, counted)
+}
+
+/// The log that counts the breaks of these teams in some stretches.
+///
+/// # Errors
+/// Only where memory runs out.
+fn log_over(
+    alloc: Global,
+    league: &League,
+    encoding: &Encoding,
+    stretches: &[Stretch],
+    counted: Counted,
+) -> Result<Log, AllocError>
+    requires season { AreInSeason league.now.n stretches.now }
+    requires teams { All (λ i. i < league.now.n) counted.teams.items }
+{
     let mut writer = Writer::new(alloc, encoding.rows().len() as u64);
     let mut rows = counted.rows;
     add_cliques(
@@ -101,6 +135,44 @@ fn counted_teams(
     for team in 0..n {
         if has(together, team)
             || add_single(alloc, league, encoding, stretches, team, &mut counted.rows)?
+        {
+            counted.teams.push(team)?;
+        }
+    }
+    Ok(counted)
+}
+
+/// The teams that bounds cover which are added up, and those that hard BR1 bound in these stretches.
+fn added_teams(
+    alloc: Global,
+    league: &League,
+    encoding: &Encoding,
+    sum: &Sum,
+) -> Result<Counted, AllocError>
+    requires season { AreInSeason league.now.n sum.now.stretches.items }
+    ensures { IfOk result (λ counted. All (λ i. i < league.now.n) counted.teams.items) }
+{
+    let n = league.n();
+    let mut counted = Counted {
+        teams: Vec::new(alloc),
+        rows: Vec::new(alloc),
+    };
+    for summand in &sum.summands {
+        if let Some(constraint) = league.constraints().get(summand.place) {
+            let team = summand.team.unwrap_or(0);
+            add_row(alloc, encoding, &constraint.class, team, &mut counted.rows)?;
+        }
+    }
+    for team in 0..n {
+        if is_covered(&sum.covered, usize::from(team))
+            || add_single(
+                alloc,
+                league,
+                encoding,
+                &sum.stretches,
+                team,
+                &mut counted.rows,
+            )?
         {
             counted.teams.push(team)?;
         }

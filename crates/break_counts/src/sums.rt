@@ -1,0 +1,366 @@
+//! Bounds of breaks that are added up: hard constraints BR1 and BR2 that count, one beside another, each break of some
+//! teams.
+ghost use Rattle.std.specs.Prelude.{◌+◌, ◌≤◌, length, IfOk, IfSome};
+ghost use Rattle.std.specs.List.{All};
+ghost use Rattle.league.specs.Instance.{IsInstance};
+ghost use Rattle.break_counts.specs.Tables.{AreInSeason};
+
+use crate::allowed::allowed_of;
+use crate::cover::has;
+use crate::stretch::Stretch;
+use league::{Class, League, Side, slot_count};
+use std::alloc::{AllocError, Global};
+
+/// A bound of breaks by the hard constraint at a place: of all teams of a BR2 together, or of one team of a BR1. Of the
+/// slots at which a break counts it counts those of these bits.
+#[derive(Clone, Copy)]
+pub(crate) struct Summand {
+    pub(crate) place: usize,
+    pub(crate) team: Option<u16>,
+    slots: u128,
+    intp: u32,
+}
+
+impl Summand {
+    /// Whether it counts breaks of a team.
+    fn counts(self, league: &League, team: u16) -> bool {
+        if let Some(one) = self.team {
+            return one == team;
+        }
+        match league.constraints().get(self.place) {
+            Some(constraint) => has(teams_of(&constraint.class), team),
+            None => false,
+        }
+    }
+}
+
+/// Stretches in which bounds that are added up allow too few breaks, and the teams of which they count each break.
+#[derive(Drop)]
+pub(crate) struct Sum {
+    pub(crate) stretches: Vec<Stretch>,
+    pub(crate) summands: Vec<Summand>,
+    pub(crate) covered: Vec<bool>,
+}
+
+/// Bounds that allow too few breaks if they are added up, where such are found.
+///
+/// # Errors
+/// Only where memory runs out.
+pub(crate) fn find_sum(alloc: Global, league: &League) -> Result<Option<Sum>, AllocError>
+    ensures stretches { IfOk result (λ found. IfSome found (λ s. AreInSeason league.now.n s.stretches.items)) }
+    ensures instance { IsInstance league.now }
+{
+    let n = league.n();
+    if !league.phased() {
+        let season = Stretch {
+            first: 0,
+            count: slot_count(n),
+        };
+        return sum_in(alloc, league, &[season]);
+    }
+    let first = Stretch {
+        first: 0,
+        count: n - 1,
+    };
+    let second = Stretch {
+        first: n - 1,
+        count: n - 1,
+    };
+    let found = sum_in(alloc, league, &[first])?;
+    if found.is_some() {
+        return Ok(found);
+    }
+    let found = sum_in(alloc, league, &[second])?;
+    if found.is_some() {
+        return Ok(found);
+    }
+    sum_in(alloc, league, &[first, second])
+}
+
+/// Bounds that allow too few breaks in these stretches if they are added up, where such are found: first those that
+/// allow least for each break that they count, no two of which count the same break.
+///
+/// # Errors
+/// Only where memory runs out.
+fn sum_in(alloc: Global, league: &League, stretches: &[Stretch]) -> Result<Option<Sum>, AllocError>
+    requires few { length stretches.now ≤ 2 }
+    requires within { All (λ t. t.first + t.count ≤ 78) stretches.now }
+    requires season { AreInSeason league.now.n stretches.now }
+    ensures { IfOk result (λ found. IfSome found (λ s. AreInSeason league.now.n s.stretches.items)) }
+{
+    let later = later_bits(stretches);
+    let all = all_summands(alloc, league, later)?;
+    let taken = apart(alloc, league, &all)?;
+    let covered = covered_by(alloc, league, &taken, later)?;
+    let summands = needed_of(alloc, league, &taken, &covered)?;
+    let allowed = allowed_of(alloc, league, stretches)?;
+    let total = total_of(&summands).saturating_add(total_beside(&allowed, &covered));
+    let needed = stretches.len() as u64 * u64::from(league.n() - 2);
+    if summands.is_empty() || total >= needed {
+        return Ok(None);
+    }
+    let mut kept = Vec::new(alloc);
+    kept.extend_from_slice(stretches)?;
+    Ok(Some(Sum {
+        stretches: kept,
+        summands,
+        covered,
+    }))
+}
+
+/// What bounds allow together.
+fn total_of(summands: &[Summand]) -> u64 {
+    let mut total = 0u64;
+    for summand in summands {
+        total = total.saturating_add(u64::from(summand.intp));
+    }
+    total
+}
+
+/// What is allowed to the teams that aren't covered.
+fn total_beside(allowed: &[u32], covered: &[bool]) -> u64 {
+    let mut total = 0u64;
+    for team in 0..allowed.len() {
+        if !is_covered(covered, team) {
+            total = total.saturating_add(u64::from(allowed[team]));
+        }
+    }
+    total
+}
+
+/// Whether a team is covered.
+pub(crate) fn is_covered(covered: &[bool], team: usize) -> bool {
+    match covered.get(team) {
+        Some(covered) => *covered,
+        None => false,
+    }
+}
+
+/// The bounds of hard constraints that count breaks at slots of these bits.
+///
+/// # Errors
+/// Only where memory runs out.
+fn all_summands(alloc: Global, league: &League, later: u128) -> Result<Vec<Summand>, AllocError> {
+    let mut found = Vec::new(alloc);
+    let constraints = league.constraints();
+    for place in 0..constraints.len() {
+        let constraint = &constraints[place];
+        if constraint.hard {
+            add_summands(&mut found, &constraint.class, place, later)?;
+        }
+    }
+    Ok(found)
+}
+
+/// Adds the bounds of a class that count breaks at slots of these bits.
+///
+/// # Errors
+/// Only where memory runs out.
+fn add_summands(
+    found: &mut Vec<Summand>,
+    class: &Class,
+    place: usize,
+    later: u128,
+) -> Result<(), AllocError> {
+    match class {
+        Class::Br1 {
+            teams,
+            intp,
+            side,
+            slots,
+        } => {
+            let bits = bits_of(slots.numbers()) & later;
+            if *side != Side::Both || bits == 0 {
+                return Ok(());
+            }
+            for team in teams.numbers() {
+                found.push(Summand {
+                    place,
+                    team: Some(*team),
+                    slots: bits,
+                    intp: *intp,
+                })?;
+            }
+            Ok(())
+        }
+        Class::Br2 {
+            teams: _,
+            intp,
+            slots,
+        } => {
+            let bits = bits_of(slots.numbers()) & later;
+            if bits == 0 {
+                return Ok(());
+            }
+            found.push(Summand {
+                place,
+                team: None,
+                slots: bits,
+                intp: *intp,
+            })?;
+            Ok(())
+        }
+        _ => Ok(()),
+    }
+}
+
+/// Bounds of which no two count the same break: those that allow least for each break that they count come first.
+///
+/// # Errors
+/// Only where memory runs out.
+fn apart(alloc: Global, league: &League, all: &[Summand]) -> Result<Vec<Summand>, AllocError> {
+    let mut order = Vec::with_capacity(alloc, all.len())?;
+    for k in 0..all.len() {
+        order.push((share(league, all[k]), k))?;
+    }
+    order.sort_unstable();
+    let mut counted = Vec::new(alloc);
+    let mut taken = Vec::new(alloc);
+    for ranked in &order {
+        if let Some(summand) = all.get(ranked.1) {
+            if is_apart(league, &counted, *summand) {
+                counted = marked(alloc, league, &counted, *summand)?;
+                taken.push(*summand)?;
+            }
+        }
+    }
+    Ok(taken)
+}
+
+/// How much a bound allows for each break that it counts, in parts of 2^20.
+fn share(league: &League, summand: Summand) -> u64 {
+    let mut teams = 0u64;
+    for team in 0..league.n() {
+        if summand.counts(league, team) {
+            teams = teams.saturating_add(1);
+        }
+    }
+    let breaks = teams.saturating_mul(u64::from(summand.slots.count_ones()));
+    (u64::from(summand.intp) << 20) / breaks.max(1)
+}
+
+/// Whether a bound counts no break that is counted so far.
+fn is_apart(league: &League, counted: &[u128], summand: Summand) -> bool {
+    for team in 0..league.n() {
+        if summand.slots & slots_of(counted, team) != 0 && summand.counts(league, team) {
+            return false;
+        }
+    }
+    true
+}
+
+/// Of each team the slots of its breaks that are counted, with those that a further bound counts.
+///
+/// # Errors
+/// Only where memory runs out.
+fn marked(
+    alloc: Global,
+    league: &League,
+    counted: &[u128],
+    summand: Summand,
+) -> Result<Vec<u128>, AllocError> {
+    let mut marked = Vec::new(alloc);
+    for team in 0..league.n() {
+        let slots = slots_of(counted, team);
+        if summand.counts(league, team) {
+            marked.push(slots | summand.slots)?;
+        } else {
+            marked.push(slots)?;
+        }
+    }
+    Ok(marked)
+}
+
+/// The slots of a team's breaks that are counted.
+fn slots_of(counted: &[u128], team: u16) -> u128 {
+    match counted.get(usize::from(team)) {
+        Some(slots) => *slots,
+        None => 0,
+    }
+}
+
+/// Of each team whether these bounds count each of its breaks at slots of these bits.
+///
+/// # Errors
+/// Only where memory runs out.
+fn covered_by(
+    alloc: Global,
+    league: &League,
+    taken: &[Summand],
+    later: u128,
+) -> Result<Vec<bool>, AllocError> {
+    let mut counted = Vec::new(alloc);
+    for summand in taken {
+        counted = marked(alloc, league, &counted, *summand)?;
+    }
+    let mut covered = Vec::new(alloc);
+    for team in 0..league.n() {
+        covered.push(slots_of(&counted, team) == later)?;
+    }
+    Ok(covered)
+}
+
+/// The bounds that count a break of a team each of whose breaks is counted.
+///
+/// # Errors
+/// Only where memory runs out.
+fn needed_of(
+    alloc: Global,
+    league: &League,
+    taken: &[Summand],
+    covered: &[bool],
+) -> Result<Vec<Summand>, AllocError> {
+    let mut needed = Vec::new(alloc);
+    for summand in taken {
+        if counts_some(league, *summand, covered) {
+            needed.push(*summand)?;
+        }
+    }
+    Ok(needed)
+}
+
+/// Whether a bound counts a break of one of these teams.
+fn counts_some(league: &League, summand: Summand, covered: &[bool]) -> bool {
+    for team in 0..league.n() {
+        if is_covered(covered, usize::from(team)) && summand.counts(league, team) {
+            return true;
+        }
+    }
+    false
+}
+
+/// The teams of a BR2.
+fn teams_of(class: &Class) -> &[u16] {
+    match class {
+        Class::Br2 {
+            teams,
+            intp: _,
+            slots: _,
+        } => teams.numbers(),
+        _ => &[],
+    }
+}
+
+/// The bits of some slots.
+fn bits_of(slots: &[u16]) -> u128 {
+    let mut bits = 0u128;
+    for slot in slots {
+        if *slot < 128 {
+            bits |= 1u128 << u32::from(*slot);
+        }
+    }
+    bits
+}
+
+/// The bits of the slots of stretches at which a break counts.
+fn later_bits(stretches: &[Stretch]) -> u128
+    requires { All (λ t. t.first + t.count ≤ 78) stretches.now }
+{
+    let mut bits = 0u128;
+    for stretch in stretches {
+        for distance in 1..stretch.count {
+            bits |= 1u128 << u32::from(stretch.first + distance);
+        }
+    }
+    bits
+}
