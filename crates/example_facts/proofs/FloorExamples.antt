@@ -73,6 +73,7 @@ reached-twice asked answer is = refused is.accepted
 -- ---- a season that costs less
 
 pub undercut-two : IsUndercut away_first 2 zero_first bettered
+unfolding bettered-zero
 undercut-two = (bettered-zero, let less : 0 < 2 = lit< tt in less)
 
 -- none costs less than 0

@@ -214,14 +214,14 @@ pub better-written : better_file ≡ solution_text one_first (Some (0, 0))
 unfolding digits
 better-written = refl
 
-better-read : solution_of 2 (pieces better_file) ≡ Ok one_first
+pub better-read : solution_of 2 (pieces better_file) ≡ Ok one_first
 unfolding attributes_at pieces_from walk
 better-read = refl
 
 abbrev pub bettered : Answer
 bettered = record { status = Better; text = better_file }
 
-pub bettered-zero : IsBettered away_first zero_first bettered
+unfoldable pub bettered-zero : IsBettered away_first zero_first bettered
 bettered-zero = record {
   better = one_first;
   accepted = away-zero;
