@@ -3,6 +3,7 @@
 #![tactic(auto)]
 
 mod best;
+mod bytes;
 mod floor;
 mod start;
 

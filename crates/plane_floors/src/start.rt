@@ -12,16 +12,23 @@ use refutation::Part;
 use rows::Lit;
 use std::alloc::{AllocError, Global};
 
-/// The steps of the venues and of the law of the fewest breaks behind so many rows, and their rows, where breaks have
-/// variables.
+/// The steps of the law of the fewest breaks behind so many rows, and before them those of the venues if they are asked
+/// for, and the rows of all these, where breaks have variables.
 ///
 /// # Errors
 /// Only where memory runs out.
-pub(crate) fn start_of(alloc: Global, league: &League, rows: u64) -> Result<Start, AllocError> {
+pub(crate) fn start_of(
+    alloc: Global,
+    league: &League,
+    rows: u64,
+    venues: bool,
+) -> Result<Start, AllocError> {
     let mut writer = Writer::new(alloc, rows);
     let mut derived = Vec::new(alloc);
     if needs_breaks(league.constraints()) {
-        add_venues(alloc, &mut writer, Frame::new(league), &mut derived)?;
+        if venues {
+            add_venues(alloc, &mut writer, Frame::new(league), &mut derived)?;
+        }
         add_laws(alloc, league, &mut writer, &mut derived)?;
     }
     Ok(Start {
