@@ -50,8 +50,8 @@ fn is_spent(answer: &Solved) -> bool
     matches!(answer, Solved::Spent { .. })
 }
 
-/// A log by cutting planes that refutes a league, if a search finds one. It learns at most half as many rows as a search
-/// by clauses may learn clauses, and at most 2,000. A search by clauses without a limit is never spent.
+/// A log by cutting planes that refutes a league, if a search finds one. It learns at most a quarter as many rows as a
+/// search by clauses may learn clauses, and at most 2,000. A search by clauses without a limit is never spent.
 ///
 /// # Errors
 /// Only where memory runs out.
@@ -65,7 +65,7 @@ fn refuted_by_planes<W: Listener>(
     requires small { encoding_size league.now ≤ most_terms }
     ensures { IfOk result (λ found. IfSome found (RefutesLeague league.now)) }
 {
-    let rows = (conflicts.unwrap_or(0) / 2).min(MOST_ROWS);
+    let rows = (conflicts.unwrap_or(0) / 4).min(MOST_ROWS);
     if rows == 0 || terms > MOST_TERMS {
         return Ok(None);
     }
