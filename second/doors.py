@@ -76,6 +76,8 @@ def told_of(words):
         return 0, None
     if not forms.are_words(words):
         return 2, "refused words\n"
+    if any(forms.without_common(words)[1].get(option) == "/dev/stdin" for option in ("--out", "--log")):
+        return 7, ""
     files = forms.files_of(words)
     if not files:
         return 0, None
