@@ -249,7 +249,7 @@ fn is_apart(league: &League, counted: &[u128], summand: Summand) -> bool {
     true
 }
 
-/// Of each team the slots of its breaks that are counted, with those that a further bound counts.
+/// The slots of the breaks that are counted, team by team, with those that a further bound counts.
 ///
 /// # Errors
 /// Only where memory runs out.
@@ -279,7 +279,7 @@ fn slots_of(counted: &[u128], team: u16) -> u128 {
     }
 }
 
-/// Of each team whether these bounds count each of its breaks at slots of these bits.
+/// Whether these bounds count, team by team, each of its breaks at slots of these bits.
 ///
 /// # Errors
 /// Only where memory runs out.

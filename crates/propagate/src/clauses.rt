@@ -38,7 +38,7 @@ impl Clause {
         Ok(Clause { terms })
     }
 
-    /// Its literals, each with coefficient 1.
+    /// The literals of the clause, each with coefficient 1.
     fn terms(&self) -> &[Term]
         ensures { result.now ≡ self.now.terms }
     {
