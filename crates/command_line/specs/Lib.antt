@@ -6,3 +6,5 @@ pub mod Faults
 pub mod SeenWords
 pub mod Standing
 pub mod SeenStanding
+pub mod SeenOptions
+pub mod Later

@@ -38,7 +38,7 @@ pub(crate) fn two_files(words: &[String]) -> Option<(&str, &str)>
 }
 
 /// Whether two words are files' names.
-fn are_names(first: &str, second: &str) -> bool
+pub(crate) fn are_names(first: &str, second: &str) -> bool
     ensures { result ≡ (options.is_file_name first.now && options.is_file_name second.now) }
 {
     is_name(first) && is_name(second)

@@ -103,7 +103,7 @@ fn wrong_demands(command: Topic, words: &[String]) -> Option<WordFault<'_>>
     match (command, words) {
         (Topic::Show, [_, option]) if option.as_str() == "--demands" => None,
         (Topic::Show, [_, option, list]) if option.as_str() == "--demands" => {
-            unfit_list(list.as_str())
+            unfit(Role::Members, list.as_str())
         }
         (Topic::Show, _) => misplaced(command, words),
         _ => None,
@@ -122,11 +122,10 @@ fn misplaced(command: Topic, words: &[String]) -> Option<WordFault<'_>>
     }
 }
 
-/// A word that is to be a list and is none.
-fn unfit_list(word: &str) -> Option<WordFault<'_>>
+/// A word that is not what it is to be.
+fn unfit(role: Role, word: &str) -> Option<WordFault<'_>>
     ensures { IfSome result IsSo }
 {
-    let role = Role::Members;
     if fits(role, word) {
         return None;
     }

@@ -1,7 +1,7 @@
 //! What rows ask of a solver.
 
 /// Which schedule of a league the rows that are written ask for.
-#[derive(Clone, Copy, Debug, PartialEq, Eq)]
+#[derive(Clone, Copy)]
 pub enum Goal {
     /// One that the league accepts.
     Accepted,

@@ -4,7 +4,7 @@ ghost use Rattle.command_line.specs.Words.{auditing, bounded_by, checking, HasTe
 ghost use Rattle.command_line.specs.SeenWords.{command_of};
 
 use crate::arguments::{files_with_log, two_files};
-use crate::option_names::has_log_options;
+use crate::option_names::{Options, has_options};
 use crate::option_values::room_said;
 use crate::words::Words;
 
@@ -13,7 +13,7 @@ pub(crate) fn read_check(words: &[String]) -> Option<Words<'_>>
     ensures reading { option_map command_of result ≡ checking (map string_bytes words.now) }
     ensures teams { IfSome result (λ command. HasTeams (command_of command)) }
 {
-    if !has_log_options(words) {
+    if !has_options(Options::Log, words) {
         return None;
     }
     let (instance, log) = two_files(words)?;
@@ -26,7 +26,7 @@ pub(crate) fn read_bound(words: &[String]) -> Option<Words<'_>>
     ensures reading { option_map command_of result ≡ bounded_by (map string_bytes words.now) }
     ensures teams { IfSome result (λ command. HasTeams (command_of command)) }
 {
-    if !has_log_options(words) {
+    if !has_options(Options::Log, words) {
         return None;
     }
     let (instance, log) = two_files(words)?;
@@ -39,7 +39,7 @@ pub(crate) fn read_audit(words: &[String]) -> Option<Words<'_>>
     ensures reading { option_map command_of result ≡ auditing (map string_bytes words.now) }
     ensures teams { IfSome result (λ command. HasTeams (command_of command)) }
 {
-    if !has_log_options(words) {
+    if !has_options(Options::Log, words) {
         return None;
     }
     let (instance, solution, k, log) = files_with_log(words)?;

@@ -2,110 +2,57 @@
 ghost use Rattle.std.specs.Prelude.{◌≡◌, map, string_bytes, bytes_eq};
 ghost use Rattle.std.specs.List.{list_any};
 ghost use Rattle.command_line.specs.Words as options;
-ghost use Rattle.command_line.specs.Words.{has_options, log_options, prove_options, row_options, show_options};
-ghost use Rattle.command_line.specs.Words.{search_options, solve_options, start_options, timed_options};
+ghost use Rattle.command_line.specs.Words.{prove_options, show_options};
+ghost use Rattle.command_line.specs.Words.{solve_options, start_options, timed_options};
+ghost use Rattle.command_line.specs.SeenOptions.{names_of};
 
-/// Whether each option is one of `solve`, and has a value.
-pub(crate) fn has_start_options(words: &[String]) -> bool
-    ensures { result ≡ has_options start_options (map string_bytes words.now) }
+/// Which options with values a command has.
+#[derive(Clone, Copy)]
+pub(crate) enum Options {
+    /// That of `patterns`, which says how far a search goes.
+    Search,
+    /// Those that say how far a search goes, or for how long.
+    Timed,
+    /// Those of `trial`, and of `resume` with `--near`.
+    Solve,
+    /// Those of `solve`.
+    Start,
+    /// Those of `prove`.
+    Prove,
+    /// That of the commands that check logs.
+    Log,
+    /// That of `rows`.
+    Rows,
+    /// Those of `show`.
+    Show,
+}
+
+/// Whether each option that has a value is one of these, and has it.
+pub(crate) fn has_options(allowed: Options, words: &[String]) -> bool
+    ensures { result ≡ options.has_options (names_of allowed) (map string_bytes words.now) }
 {
     match words {
         [first, _, rest @ ..] if has_value(first.as_str()) => {
-            is_start_option(first.as_str()) && has_start_options(rest)
+            is_among(allowed, first.as_str()) && has_options(allowed, rest)
         }
-        [first, rest @ ..] => !has_value(first.as_str()) && has_start_options(rest),
+        [first, rest @ ..] => !has_value(first.as_str()) && has_options(allowed, rest),
         [] => true,
     }
 }
 
-/// Whether each option is one of `trial`, and has a value.
-pub(crate) fn has_solve_options(words: &[String]) -> bool
-    ensures { result ≡ has_options solve_options (map string_bytes words.now) }
+/// Whether a word is the name of one of these options.
+fn is_among(allowed: Options, word: &str) -> bool
+    ensures { result ≡ list_any (λ name. bytes_eq word.now name) (names_of allowed) }
 {
-    match words {
-        [first, _, rest @ ..] if has_value(first.as_str()) => {
-            is_solve_option(first.as_str()) && has_solve_options(rest)
-        }
-        [first, rest @ ..] => !has_value(first.as_str()) && has_solve_options(rest),
-        [] => true,
-    }
-}
-
-/// Whether each option says how far a search goes, and has a value.
-pub(crate) fn has_search_options(words: &[String]) -> bool
-    ensures { result ≡ has_options search_options (map string_bytes words.now) }
-{
-    match words {
-        [first, _, rest @ ..] if has_value(first.as_str()) => {
-            first.as_str() == "--conflicts" && has_search_options(rest)
-        }
-        [first, rest @ ..] => !has_value(first.as_str()) && has_search_options(rest),
-        [] => true,
-    }
-}
-
-/// Whether each option says how far a search goes, or for how long, and has a value.
-pub(crate) fn has_timed_options(words: &[String]) -> bool
-    ensures { result ≡ has_options timed_options (map string_bytes words.now) }
-{
-    match words {
-        [first, _, rest @ ..] if has_value(first.as_str()) => {
-            is_timed_option(first.as_str()) && has_timed_options(rest)
-        }
-        [first, rest @ ..] => !has_value(first.as_str()) && has_timed_options(rest),
-        [] => true,
-    }
-}
-
-/// Whether each option is one of `prove`, and has a value.
-pub(crate) fn has_prove_options(words: &[String]) -> bool
-    ensures { result ≡ has_options prove_options (map string_bytes words.now) }
-{
-    match words {
-        [first, _, rest @ ..] if has_value(first.as_str()) => {
-            is_prove_option(first.as_str()) && has_prove_options(rest)
-        }
-        [first, rest @ ..] => !has_value(first.as_str()) && has_prove_options(rest),
-        [] => true,
-    }
-}
-
-/// Whether each option is that of the commands that check logs, and has a value.
-pub(crate) fn has_log_options(words: &[String]) -> bool
-    ensures { result ≡ has_options log_options (map string_bytes words.now) }
-{
-    match words {
-        [first, _, rest @ ..] if has_value(first.as_str()) => {
-            first.as_str() == "--room" && has_log_options(rest)
-        }
-        [first, rest @ ..] => !has_value(first.as_str()) && has_log_options(rest),
-        [] => true,
-    }
-}
-
-/// Whether each option is that of `rows` that has a value, and has it.
-pub(crate) fn has_row_options(words: &[String]) -> bool
-    ensures { result ≡ has_options row_options (map string_bytes words.now) }
-{
-    match words {
-        [first, _, rest @ ..] if has_value(first.as_str()) => {
-            first.as_str() == "--bound" && has_row_options(rest)
-        }
-        [first, rest @ ..] => !has_value(first.as_str()) && has_row_options(rest),
-        [] => true,
-    }
-}
-
-/// Whether each option is one of `show`, and has a value.
-pub(crate) fn has_show_options(words: &[String]) -> bool
-    ensures { result ≡ has_options show_options (map string_bytes words.now) }
-{
-    match words {
-        [first, _, rest @ ..] if has_value(first.as_str()) => {
-            is_show_option(first.as_str()) && has_show_options(rest)
-        }
-        [first, rest @ ..] => !has_value(first.as_str()) && has_show_options(rest),
-        [] => true,
+    match allowed {
+        Options::Search => word == "--conflicts",
+        Options::Timed => is_timed_option(word),
+        Options::Solve => is_solve_option(word),
+        Options::Start => is_start_option(word),
+        Options::Prove => is_prove_option(word),
+        Options::Log => word == "--room",
+        Options::Rows => word == "--bound",
+        Options::Show => is_show_option(word),
     }
 }
 

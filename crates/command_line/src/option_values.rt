@@ -193,6 +193,7 @@ fn number_said(words: &[String], name: &str, usual: u64) -> Option<u64>
 }
 
 /// How often an option stands, and its value where that is once.
+#[derive(Clone, Copy)]
 pub(crate) enum Standing<'a> {
     Never,
     Once(&'a str),

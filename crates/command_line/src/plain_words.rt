@@ -1,8 +1,10 @@
 //! The words of commands that have no options.
 ghost use Rattle.std.specs.Prelude.{◌≡◌, [], ◌∷◌, map, string_bytes, option_map, IfSome};
+ghost use Rattle.command_line.specs.Words as options;
 ghost use Rattle.command_line.specs.Words.{making, parting, HasTeams, plain};
 ghost use Rattle.command_line.specs.SeenWords.{command_of};
 
+use crate::arguments::are_names;
 use crate::list::is_list;
 use crate::values::{is_name, number, team_count};
 use crate::words::Words;
@@ -24,24 +26,29 @@ fn with_two<'a>(command: &str, first: &'a str, second: &'a str) -> Option<Words<
     ensures reading { option_map command_of result ≡ plain command.now (first.now ∷ second.now ∷ []) }
     ensures teams { IfSome result (λ command. HasTeams (command_of command)) }
 {
-    if command == "make" {
-        make_of(first, second)
-    } else if command == "part" {
-        part_of(first, second)
-    } else if !is_name(first) || !is_name(second) {
-        None
-    } else if command == "validate" {
-        Some(Words::Validate {
+    match command {
+        "make" => make_of(first, second),
+        "part" => part_of(first, second),
+        _ if are_names(first, second) => over_files(command, first, second),
+        _ => None,
+    }
+}
+
+/// The command of this name over two files.
+fn over_files<'a>(command: &str, first: &'a str, second: &'a str) -> Option<Words<'a>>
+    ensures reading { option_map command_of result ≡ options.over_files command.now first.now second.now }
+    ensures teams { IfSome result (λ command. HasTeams (command_of command)) }
+{
+    match command {
+        "validate" => Some(Words::Validate {
             instance: first,
             solution: second,
-        })
-    } else if command == "values" {
-        Some(Words::Values {
+        }),
+        "values" => Some(Words::Values {
             instance: first,
             values: second,
-        })
-    } else {
-        None
+        }),
+        _ => None,
     }
 }
 

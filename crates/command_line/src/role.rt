@@ -1,13 +1,14 @@
 //! What a word behind a command is to be.
 ghost use Rattle.std.specs.Prelude.{◌≡◌, ◌<◌, OnSome};
 ghost use Rattle.command_line.specs.Faults as faults;
+ghost use Rattle.command_line.specs.Later as later;
 
 use crate::list::is_list;
 use crate::topic::Topic;
 use crate::values::{budget, form, is_name, most, number, small, team_count, tries};
 
 /// What a word behind a command, or behind an option, is to be.
-#[derive(Clone, Copy, Debug, PartialEq, Eq)]
+#[derive(Clone, Copy)]
 pub enum Role {
     /// The name of a league's file.
     Instance,
@@ -186,6 +187,15 @@ fn solve_option(word: &str) -> Option<Role>
         "--conflicts" => Some(Role::Conflicts),
         "--moves" => Some(Role::Moves),
         "--tries" => Some(Role::Tries),
+        _ => later_option(word),
+    }
+}
+
+/// The same of an option that is none of these three.
+fn later_option(word: &str) -> Option<Role>
+    ensures { result ≡ later.later_option word.now }
+{
+    match word {
         "--patterns" => Some(Role::Patterns),
         "--seed" => Some(Role::Draws),
         "--seconds" => Some(Role::Seconds),
@@ -197,18 +207,49 @@ fn solve_option(word: &str) -> Option<Role>
 pub(crate) fn role_at(command: Topic, before: usize) -> Option<Role>
     ensures { OnSome result (before < 4) }
 {
-    match (command, before) {
-        (Topic::Circle | Topic::Make | Topic::Trial, 0) => Some(Role::Teams),
-        (_, 0) => Some(Role::Instance),
-        (Topic::Part, 1) => Some(Role::Members),
-        (Topic::Make | Topic::Trial, 1) => Some(Role::Seed),
-        (Topic::Check | Topic::Bound, 1) => Some(Role::Log),
-        (Topic::Values, 1) => Some(Role::Values),
-        (Topic::Validate | Topic::Show | Topic::Prove | Topic::Resume | Topic::Audit, 1) => Some(
+    match before {
+        0 => Some(first_role(command)),
+        1 => second_role(command),
+        2 => third_role(command),
+        3 => fourth_role(command),
+        _ => None,
+    }
+}
+
+/// What the first argument of a command is to be.
+fn first_role(command: Topic) -> Role {
+    match command {
+        Topic::Circle | Topic::Make | Topic::Trial => Role::Teams,
+        _ => Role::Instance,
+    }
+}
+
+/// What the second argument of a command is to be.
+fn second_role(command: Topic) -> Option<Role> {
+    match command {
+        Topic::Part => Some(Role::Members),
+        Topic::Make | Topic::Trial => Some(Role::Seed),
+        Topic::Check | Topic::Bound => Some(Role::Log),
+        Topic::Values => Some(Role::Values),
+        Topic::Validate | Topic::Show | Topic::Prove | Topic::Resume | Topic::Audit => Some(
             Role::Solution,
         ),
-        (Topic::Resume | Topic::Audit, 2) => Some(Role::Slots),
-        (Topic::Audit, 3) => Some(Role::Log),
+        _ => None,
+    }
+}
+
+/// What the third argument of a command is to be.
+fn third_role(command: Topic) -> Option<Role> {
+    match command {
+        Topic::Resume | Topic::Audit => Some(Role::Slots),
+        _ => None,
+    }
+}
+
+/// What the fourth argument of a command is to be.
+fn fourth_role(command: Topic) -> Option<Role> {
+    match command {
+        Topic::Audit => Some(Role::Log),
         _ => None,
     }
 }

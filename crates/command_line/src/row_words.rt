@@ -5,7 +5,7 @@ ghost use Rattle.command_line.specs.SeenWords.{command_of};
 
 use crate::arguments::one_file;
 use crate::goal::Goal;
-use crate::option_names::has_row_options;
+use crate::option_names::{Options, has_options};
 use crate::option_values::goal_said;
 use crate::values::is_name;
 use crate::words::Words;
@@ -66,7 +66,7 @@ fn read_bounded(words: &[String]) -> Option<Words<'_>>
     ensures reading { option_map command_of result ≡ bounding (map string_bytes words.now) }
     ensures teams { IfSome result (λ command. HasTeams (command_of command)) }
 {
-    if !has_row_options(words) {
+    if !has_options(Options::Rows, words) {
         return None;
     }
     let instance = one_file(words)?;

@@ -8,10 +8,7 @@ ghost use Rattle.command_line.specs.Words.Command.{Circle, Solve};
 ghost use Rattle.command_line.specs.SeenWords.{command_of};
 
 use crate::arguments::{files_and_number, near_files_and_number, one_file, one_number, two_files};
-use crate::option_names::{
-    has_prove_options, has_search_options, has_solve_options, has_start_options, has_timed_options,
-    has_value,
-};
+use crate::option_names::{Options, has_options, has_value};
 use crate::option_values::{
     Standing, budgets, conflicts_said, floor_said, timed_conflicts_said, value_of,
 };
@@ -24,7 +21,7 @@ pub(crate) fn read_solve(words: &[String]) -> Option<Words<'_>>
     ensures reading { option_map command_of result ≡ solving (map string_bytes words.now) }
     ensures teams { IfSome result (λ command. HasTeams (command_of command)) }
 {
-    if !has_start_options(words) {
+    if !has_options(Options::Start, words) {
         return None;
     }
     let instance = one_file(words)?;
@@ -65,7 +62,7 @@ pub(crate) fn read_patterns(words: &[String]) -> Option<Words<'_>>
     ensures reading { option_map command_of result ≡ patterning (map string_bytes words.now) }
     ensures teams { IfSome result (λ command. HasTeams (command_of command)) }
 {
-    if !has_search_options(words) {
+    if !has_options(Options::Search, words) {
         return None;
     }
     let instance = one_file(words)?;
@@ -81,7 +78,7 @@ pub(crate) fn read_explain(words: &[String]) -> Option<Words<'_>>
     ensures reading { option_map command_of result ≡ explaining (map string_bytes words.now) }
     ensures teams { IfSome result (λ command. HasTeams (command_of command)) }
 {
-    if !has_timed_options(words) {
+    if !has_options(Options::Timed, words) {
         return None;
     }
     let instance = one_file(words)?;
@@ -97,7 +94,7 @@ pub(crate) fn read_prove(words: &[String]) -> Option<Words<'_>>
     ensures reading { option_map command_of result ≡ proving (map string_bytes words.now) }
     ensures teams { IfSome result (λ command. HasTeams (command_of command)) }
 {
-    if !has_prove_options(words) {
+    if !has_options(Options::Prove, words) {
         return None;
     }
     let (instance, solution) = two_files(words)?;
@@ -127,7 +124,7 @@ fn read_near(words: &[String]) -> Option<Words<'_>>
     ensures reading { option_map command_of result ≡ resuming_near (map string_bytes words.now) }
     ensures teams { IfSome result (λ command. HasTeams (command_of command)) }
 {
-    if !has_solve_options(words) {
+    if !has_options(Options::Solve, words) {
         return None;
     }
     let (instance, solution, k) = near_files_and_number(words)?;
@@ -145,7 +142,7 @@ fn read_kept(words: &[String]) -> Option<Words<'_>>
     ensures reading { option_map command_of result ≡ resuming_kept (map string_bytes words.now) }
     ensures teams { IfSome result (λ command. HasTeams (command_of command)) }
 {
-    if !has_timed_options(words) {
+    if !has_options(Options::Timed, words) {
         return None;
     }
     let (instance, solution, k) = files_and_number(words)?;
@@ -163,7 +160,7 @@ pub(crate) fn read_trial(words: &[String]) -> Option<Words<'_>>
     ensures reading { option_map command_of result ≡ trying (map string_bytes words.now) }
     ensures teams { IfSome result (λ command. HasTeams (command_of command)) }
 {
-    if !has_solve_options(words) {
+    if !has_options(Options::Solve, words) {
         return None;
     }
     let (n, seed) = teams_and_seed(words)?;

@@ -6,7 +6,7 @@ ghost use Rattle.command_line.specs.SeenWords.{command_of};
 
 use crate::arguments::two_files;
 use crate::list::is_list;
-use crate::option_names::has_show_options;
+use crate::option_names::{Options, has_options};
 use crate::option_values::{form_said, most_said, small_said};
 use crate::values::is_name;
 use crate::words::Words;
@@ -72,7 +72,7 @@ fn read_season(words: &[String]) -> Option<Words<'_>>
     ensures reading { option_map command_of result ≡ showing_season (map string_bytes words.now) }
     ensures teams { IfSome result (λ command. HasTeams (command_of command)) }
 {
-    if !has_show_options(words) {
+    if !has_options(Options::Show, words) {
         return None;
     }
     let (instance, solution) = two_files(words)?;

@@ -2,6 +2,7 @@
 ghost use Rattle.std.specs.Prelude.{◌≡◌, [], ◌∷◌, map, string_bytes, option_map, IfSome};
 ghost use Rattle.command_line.specs.Words.{asking, following, helping, HasTeams, reading};
 ghost use Rattle.command_line.specs.SeenWords.{command_of};
+ghost use Rattle.command_line.specs.Later.{following_files, following_season};
 
 use crate::goal::Goal;
 use crate::log_words::{read_audit, read_bound, read_check};
@@ -224,23 +225,35 @@ fn follow<'a>(command: &str, words: &'a [String]) -> Option<Words<'a>>
     ensures reading { option_map command_of result ≡ following (command.now ∷ map string_bytes words.now) }
     ensures teams { IfSome result (λ command. HasTeams (command_of command)) }
 {
-    if command == "solve" {
-        read_solve(words)
-    } else if command == "patterns" {
-        read_patterns(words)
-    } else if command == "explain" {
-        read_explain(words)
-    } else if command == "prove" {
-        read_prove(words)
-    } else if command == "resume" {
-        read_resume(words)
-    } else if command == "audit" {
-        read_audit(words)
-    } else if command == "trial" {
-        read_trial(words)
-    } else if command == "rows" {
-        read_rows(words)
-    } else if command == "show" {
+    match command {
+        "solve" => read_solve(words),
+        "patterns" => read_patterns(words),
+        "explain" => read_explain(words),
+        "prove" => read_prove(words),
+        _ => follow_season(command, words),
+    }
+}
+
+/// The command of this name with its words, where it is none of the four that `follow` knows.
+fn follow_season<'a>(command: &str, words: &'a [String]) -> Option<Words<'a>>
+    ensures reading { option_map command_of result ≡ following_season command.now (map string_bytes words.now) }
+    ensures teams { IfSome result (λ command. HasTeams (command_of command)) }
+{
+    match command {
+        "resume" => read_resume(words),
+        "audit" => read_audit(words),
+        "trial" => read_trial(words),
+        "rows" => read_rows(words),
+        _ => follow_files(command, words),
+    }
+}
+
+/// The command of this name with its words, where it is none that `follow` and `follow_season` know.
+fn follow_files<'a>(command: &str, words: &'a [String]) -> Option<Words<'a>>
+    ensures reading { option_map command_of result ≡ following_files command.now (map string_bytes words.now) }
+    ensures teams { IfSome result (λ command. HasTeams (command_of command)) }
+{
+    if command == "show" {
         read_show(words)
     } else if command == "check" {
         read_check(words)

@@ -1,6 +1,0 @@
-use Rattle.std.specs.Prelude.{length}
-use Rattle.command_line.proofs.option_names.+has_search_options.Given as goal
-
--- each call is on fewer words
-abbrev pub decreases-has_search_options : goal.decreases-has_search_options
-decreases-has_search_options l = length l.words.now
