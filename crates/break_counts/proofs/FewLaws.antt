@@ -36,11 +36,11 @@ use Rattle.break_counts.proofs.StretchLemmas.{IsMet, all_but_two}
 -- ---- stretches one behind another
 
 -- so that their slots differ
-abbrev Follow : ℕ → List Stretch → ℕ → Type 0
+abbrev pub Follow : ℕ → List Stretch → ℕ → Type 0
 Follow from [] end = from ≤ end
 Follow from (t ∷ stretches) end = (from ≤ t.first) × (1 ≤ t.count) × Follow (t.first + t.count) stretches end
 
-abbrev before : (ℕ → ℕ) → ℕ → ℕ
+abbrev pub before : (ℕ → ℕ) → ℕ → ℕ
 before g k = sum_by g (range_with_len 0 k)
 
 later_before : (g : ℕ → ℕ) (t : Stretch) (from : ℕ) → from ≤ t.first → 1 ≤ t.count
@@ -57,7 +57,7 @@ later_before g t from low some =
     )
 
 -- a sum over all their later slots
-all_later : (g : ℕ → ℕ) (stretches : List Stretch) (from end : ℕ) → Follow from stretches end
+pub all_later : (g : ℕ → ℕ) (stretches : List Stretch) (from end : ℕ) → Follow from stretches end
     → sum_by (λ t. sum_by g (later_slots t)) stretches + before g from ≤ before g end
 all_later g [] from end follow = omega (arith, sum_by-range-part g 0 end 0 from (omega arith) (omega (arith, follow)))
 all_later g (t ∷ stretches) from end follow =
@@ -68,25 +68,30 @@ all_later g (t ∷ stretches) from end follow =
       all_later g stretches (t.first + t.count) end follow.2,
     )
 
+-- numbers at their later slots that are no more where all these pass a test
+pub tested_le : (g h : ℕ → ℕ) (p : ℕ → Bool) → ((s : ℕ) → p s ≡ true → g s ≤ h s) → (stretches : List Stretch)
+    → list_all (λ t. list_all p (later_slots t)) stretches ≡ true
+    → sum_by (λ t. sum_by g (later_slots t)) stretches ≤ sum_by (λ t. sum_by h (later_slots t)) stretches
+tested_le g h p each [] passes = omega arith
+tested_le g h p each (t ∷ stretches) passes =
+    let parts = and_parts (list_all p (later_slots t)) (list_all (λ u. list_all p (later_slots u)) stretches) passes in
+    omega (
+      arith,
+      sum_by-cons (λ (u : Stretch). sum_by g (later_slots u)) t stretches,
+      sum_by-cons (λ (u : Stretch). sum_by h (later_slots u)) t stretches,
+      range_le g h (t.first + 1) (t.count - 1)
+          (λ x low high. each x (list_all-at p (t.first + 1) (t.count - 1) x parts.0 low high)),
+      tested_le g h p each stretches parts.1,
+    )
+
 -- what is counted at the later slots is counted at slots that cover them
 covered_le : (g : ℕ → ℕ) (slots : List ℕ) (stretches : List Stretch) → covers slots stretches ≡ true
     → sum_by (λ t. sum_by g (later_slots t)) stretches
     ≤ sum_by (λ t. sum_by (only_in slots g) (later_slots t)) stretches
-covered_le g slots [] covered = omega arith
-covered_le g slots (t ∷ stretches) covered =
-    let parts = and_parts (list_all (λ s. is_in s slots) (later_slots t)) (covers slots stretches) covered in
-    omega (
-      arith,
-      sum_by-cons (λ (u : Stretch). sum_by g (later_slots u)) t stretches,
-      sum_by-cons (λ (u : Stretch). sum_by (only_in slots g) (later_slots u)) t stretches,
-      range_le g (only_in slots g) (t.first + 1) (t.count - 1)
-          (λ x low high.
-          (let kept : only_in slots g x ≡ g x =
-          cond-true (is_in x slots) (g x) 0
-          (list_all-at (λ s. is_in s slots) (t.first + 1) (t.count - 1) x parts.0 low high) in
-          omega (arith, kept))),
-      covered_le g slots stretches parts.1,
-    )
+covered_le g slots stretches covered =
+    tested_le g (only_in slots g) (λ s. is_in s slots)
+    (λ s within. (let kept : only_in slots g s ≡ g s = cond-true (is_in s slots) (g s) 0 within in omega (arith, kept)))
+    stretches covered
 
 pub counted_le : (g : ℕ → ℕ) (slots : List ℕ) (stretches : List Stretch) (end : ℕ) → Follow 0 stretches end
     → covers slots stretches ≡ true → sum_by (λ t. sum_by g (later_slots t)) stretches ≤ sum_by g slots
@@ -101,7 +106,7 @@ counted_le g slots stretches end follow covered =
 -- ---- hard constraints of an accepted schedule
 
 -- a member's entry
-member_entry : (f : ℕ → ℕ) (xs : List ℕ) (i : ℕ) → All (λ e. e ≡ 0) (map f xs) → is_in i xs ≡ true → f i ≡ 0
+pub member_entry : (f : ℕ → ℕ) (xs : List ℕ) (i : ℕ) → All (λ e. e ≡ 0) (map f xs) → is_in i xs ≡ true → f i ≡ 0
 member_entry f [] i none member = absurd (cc)
 member_entry f (x ∷ xs) i none member =
     elim (or_cases (x == i) (is_in i xs) member) [
@@ -109,7 +114,7 @@ member_entry f (x ∷ xs) i none member =
       | inr later ↦ member_entry f xs i (All-tail (λ e. e ≡ 0) (f x) (map f xs) none) later
     ]
 
-same_side : (s t : Side) → is_side s t ≡ true → s ≡ t
+pub same_side : (s t : Side) → is_side s t ≡ true → s ≡ t
 same_side H H is = refl
 same_side A A is = refl
 same_side Both Both is = refl
@@ -120,12 +125,17 @@ same_side A Both is = absurd (cc)
 same_side Both H is = absurd (cc)
 same_side Both A is = absurd (cc)
 
+-- a number counts in a set or outside of it
+pub parted : (b : Bool) (k : ℕ) → k ≡ cond b k 0 + cond (not b) k 0
+parted true k = omega arith
+parted false k = omega arith
+
 module _ (n : ℕ) (m : Counts) (stretches : List Stretch) (end : ℕ) (follow : Follow 0 stretches end) where
   -- in how many of the stretches a team has a break on a side
-  abbrev broken : Side → ℕ → ℕ
+  abbrev pub broken : Side → ℕ → ℕ
   broken side i = sum_by (λ t. one_if (nat_lt 0 (breaks_among n m side (later_slots t) i))) stretches
 
-  one_le : (b : Bool) (k : ℕ) → nat_lt 0 k ≡ b → one_if b ≤ k
+  pub one_le : (b : Bool) (k : ℕ) → nat_lt 0 k ≡ b → one_if b ≤ k
   one_le true k is = omega (arith, ltb-true 0 k is)
   one_le false k is = omega arith
 
@@ -221,16 +231,11 @@ module _ (n : ℕ) (m : Counts) (stretches : List Stretch) (end : ℕ) (follow :
     allowed-on : (side : Side) (i : ℕ) → broken side i ≤ allowed_on constraints stretches side i
     allowed-on side i = folded-le (hard_of constraints) side i (length stretches) met (broken-length side i)
 
-    allowed-of : (i : ℕ) → broken Both i ≤ allowed_of constraints stretches i
+    pub allowed-of : (i : ℕ) → broken Both i ≤ allowed_of constraints stretches i
     allowed-of i = omega (arith, allowed-on Both i, allowed-on H i, allowed-on A i, broken-sides i)
 
     singly : sum_by (broken Both) (teams_of n) ≤ allowed_singly n constraints stretches
     singly = sum_by-le-sum_by (broken Both) (allowed_of constraints stretches) (teams_of n) allowed-of
-
-    -- a number counts in a set or outside of it
-    parted : (b : Bool) (k : ℕ) → k ≡ cond b k 0 + cond (not b) k 0
-    parted true k = omega arith
-    parted false k = omega arith
 
     together : (teams slots : List ℕ) (intp : ℕ) → all_breaks n m teams slots ≤ intp → covers slots stretches ≡ true
         → sum_by (broken Both) (teams_of n)
@@ -269,7 +274,7 @@ module _ (n : ℕ) (m : Counts) (stretches : List Stretch) (end : ℕ) (follow :
     allowed-with (Se1 teams min) here = singly
 
     -- all teams but two have a break in each stretch
-    needed : All (IsMet n m) stretches → length stretches * (n - 2) ≤ sum_by (broken Both) (teams_of n)
+    pub needed : All (IsMet n m) stretches → length stretches * (n - 2) ≤ sum_by (broken Both) (teams_of n)
     needed are_met =
         let has : ℕ → Stretch → ℕ = λ i t. one_if (nat_lt 0 (breaks_among n m Both (later_slots t) i)) in
         omega (
@@ -319,20 +324,18 @@ module _ (n : ℕ) (m : Counts) (stretches : List Stretch) (end : ℕ) (follow :
 met-one : (n : ℕ) (m : Counts) (t : Stretch) → IsMet n m t → All (IsMet n m) (t ∷ [])
 met-one n m t is = All-cons (IsMet n m) t [] is (All-nil (IsMet n m))
 
-module _ (league : Instance) (m : Counts) (instance : IsInstance league) (accepted : IsAccepted league m) where
+-- what is never so of stretches that are met, one behind another, is so of none that a league counts together
+module _ (league : Instance) (m : Counts) (instance : IsInstance league) (accepted : IsAccepted league m)
+    (few_in : List Stretch → Bool)
+    (never : (stretches : List Stretch) → Follow 0 stretches (slot_count league.n) → All (IsMet league.n m) stretches
+    → few_in stretches ≡ true → ⊥) where
   two : 2 ≤ league.n
   two = instance.teams.at_least
 
   played : IsPlayedOnce league.n league.phased m
   played = IsPlayedOnce-of league.n league.phased m accepted.round_robin
 
-  -- not in stretches that are met, one behind another
-  never : (stretches : List Stretch) → Follow 0 stretches (slot_count league.n) → All (IsMet league.n m) stretches
-      → is_few_in league.n league.constraints stretches ≡ true → ⊥
-  never stretches follow are_met few =
-      none_few_in league.n m stretches (slot_count league.n) follow league.constraints accepted.hard are_met few
-
-  in_season : is_few_in league.n league.constraints (stretch 0 (slot_count league.n) ∷ []) ≡ true → ⊥
+  in_season : few_in (stretch 0 (slot_count league.n) ∷ []) ≡ true → ⊥
   in_season few =
       never (stretch 0 (slot_count league.n) ∷ []) (omega arith, omega (arith, two), omega arith)
       (met-one league.n m (stretch 0 (slot_count league.n)) (season-met league.n league.phased m two played)) few
@@ -350,30 +353,28 @@ module _ (league : Instance) (m : Counts) (instance : IsInstance league) (accept
     second_met : IsMet league.n m second
     second_met = second_half-met league.n league.phased m two phases played
 
-    in_first : is_few_in league.n league.constraints (first ∷ []) ≡ true → ⊥
+    in_first : few_in (first ∷ []) ≡ true → ⊥
     in_first few =
         never (first ∷ []) (omega arith, omega (arith, two), omega arith) (met-one league.n m first first_met) few
 
-    in_second : is_few_in league.n league.constraints (second ∷ []) ≡ true → ⊥
+    in_second : few_in (second ∷ []) ≡ true → ⊥
     in_second few =
         never (second ∷ []) (omega arith, omega (arith, two), omega (arith, two))
         (met-one league.n m second second_met) few
 
-    in_both : is_few_in league.n league.constraints (first ∷ second ∷ []) ≡ true → ⊥
+    in_both : few_in (first ∷ second ∷ []) ≡ true → ⊥
     in_both few =
         never (first ∷ second ∷ [])
         (omega arith, omega (arith, two), (omega arith, omega (arith, two), omega (arith, two)))
         (All-cons (IsMet league.n m) first (second ∷ []) first_met (met-one league.n m second second_met)) few
 
-  by_phases : (b : Bool) → league.phased ≡ b
-      → list_any (is_few_in league.n league.constraints) (stretches_of league.n b) ≡ true → ⊥
+  by_phases : (b : Bool) → league.phased ≡ b → list_any few_in (stretches_of league.n b) ≡ true → ⊥
   by_phases false phases few =
-      elim (or_cases (is_few_in league.n league.constraints (stretch 0 (slot_count league.n) ∷ [])) false few) [
+      elim (or_cases (few_in (stretch 0 (slot_count league.n) ∷ [])) false few) [
         | inl here ↦ in_season here
         | inr later ↦ absurd (cc)
       ]
   by_phases true phases few =
-      let few_in : List Stretch → Bool = is_few_in league.n league.constraints in
       let a : Stretch = stretch 0 (league.n - 1) in
       let b : Stretch = stretch (league.n - 1) (league.n - 1) in
       elim (or_cases (few_in (a ∷ [])) (few_in (b ∷ []) || (few_in (a ∷ b ∷ []) || false)) few) [
@@ -389,8 +390,12 @@ module _ (league : Instance) (m : Counts) (instance : IsInstance league) (accept
             ]
       ]
 
-  pub accepts_none : are_few league ≡ true → ⊥
-  accepts_none few = by_phases league.phased refl few
+  pub none_in : list_any few_in (stretches_of league.n league.phased) ≡ true → ⊥
+  none_in few = by_phases league.phased refl few
 
 pub few-none : FewBreaksAllowNone
-few-none league m instance few accepted = accepts_none league m instance accepted few
+few-none league m instance few accepted =
+    none_in league m instance accepted (is_few_in league.n league.constraints)
+    (λ stretches follow are_met here.
+    none_few_in league.n m stretches (slot_count league.n) follow league.constraints accepted.hard are_met here)
+    few

@@ -6,7 +6,8 @@
 -- `first_half-met` and `second_half-met` say in which stretches each two teams meet. `counted_le` says that breaks in
 -- stretches are no more than breaks at slots that cover them. So an accepted schedule has no more than is allowed:
 -- `allowed-by` one constraint, `allowed-on` one side, `allowed-of` both, `allowed-with` all teams and a BR2.
--- `none_few_in` holds both numbers against each other, and `accepts_none` goes through the stretches of a league.
+-- `none_few_in` holds both numbers against each other, and `none_in` goes through the stretches of a league. In `SumLaws`
+-- bounds that are added up allow as much together (`bounded`), and count the breaks of teams between them (`broken-counted`).
 -- `TableLemmas` says that the code finds what is allowed (`table-more`, `table-both`, `few-at`, `none-few`), and
 -- `LineLemmas` that a log's lines are short.
 -- The difficulty: stretches that are counted together must not share a slot, or a break would count twice. `Follow`
@@ -20,6 +21,10 @@ mod StretchLemmas
 mod MetLemmas
 -- What hard constraints allow, and the law:
 pub mod FewLaws
+-- What bounds allow together, and their law:
+pub mod SumLaws
+-- What bounds allow together, as it is found:
+pub mod TogetherLemmas
 -- What each team is allowed, as it is found:
 pub mod TableLemmas
 -- How long lines are:
@@ -30,3 +35,4 @@ pub mod CheckLemmas
 pub mod SearchLemmas
 -- Worked examples, so that a wrong definition does not check:
 mod BreakFacts
+mod SumFacts

@@ -60,7 +60,7 @@ one_more : (here before : Bool) (k : ℕ) → cond (here || before) k 0 ≤ cond
 one_more true before k = omega arith
 one_more false before k = omega arith
 
-one_term : (g : ℕ → ℕ) (y size : ℕ) → sum_by (λ x. cond (y == x) (g x) 0) (range_with_len 0 size) ≤ g y
+pub one_term : (g : ℕ → ℕ) (y size : ℕ) → sum_by (λ x. cond (y == x) (g x) 0) (range_with_len 0 size) ≤ g y
 one_term g y size =
     let f : ℕ → ℕ = λ x. cond (y == x) (g x) 0 in
     let other : (x : ℕ) → x ≢ y → f x ≡ 0 =

@@ -28,11 +28,9 @@ use Rattle.break_counts.specs.declared.stretch.Stretch.{Stretch}
 
 -- ---- a range that all passes a test, number by number
 
-pub holds-more : (slots : List ℕ) (first d : ℕ) → 1 ≤ d
-    → list_all (λ s. is_in s slots) (range_with_len (first + 1) (d - 1)) ≡ true → is_in (first + d) slots ≡ true
-    → list_all (λ s. is_in s slots) (range_with_len (first + 1) (d + 1 - 1)) ≡ true
-holds-more slots first d some so_far here =
-    let p : ℕ → Bool = λ s. is_in s slots in
+pub passes-more : (p : ℕ → Bool) (first d : ℕ) → 1 ≤ d → list_all p (range_with_len (first + 1) (d - 1)) ≡ true
+    → p (first + d) ≡ true → list_all p (range_with_len (first + 1) (d + 1 - 1)) ≡ true
+passes-more p first d some so_far here =
     let more : d + 1 - 1 ≡ d - 1 + 1 = omega (arith, some) in
     let place : first + 1 + (d - 1) ≡ first + d = omega (arith, some) in
     ap (λ (k : ℕ). list_all p (range_with_len (first + 1) k)) more
@@ -157,12 +155,12 @@ singly-total n constraints stretches table total is summed =
 same-if : (b : Bool) (x y : ℕ) → x ≡ y → cond b x 0 ≡ cond b y 0
 same-if b x y same = ap (λ (k : ℕ). cond b k 0) same
 
-pub outside-total : (n : ℕ) (constraints : List Constraint) (stretches : List Stretch) (table teams : List ℕ)
+-- of those that pass a test
+pub outside-total : (n : ℕ) (constraints : List Constraint) (stretches : List Stretch) (table : List ℕ) (out : ℕ → Bool)
     → IsTable n constraints stretches table
-    → sum_by (λ i. get_or table i 0) (filter (λ i. not (is_in i teams)) (range_with_len 0 (length table)))
-    ≡ sum_by (allowed_of constraints stretches) (filter (λ i. not (is_in i teams)) (teams_of n))
-outside-total n constraints stretches table teams is =
-    let out : ℕ → Bool = λ i. not (is_in i teams) in
+    → sum_by (λ i. get_or table i 0) (filter out (range_with_len 0 (length table)))
+    ≡ sum_by (allowed_of constraints stretches) (filter out (teams_of n))
+outside-total n constraints stretches table out is =
     let f : ℕ → ℕ = λ i. get_or table i 0 in
     let g : ℕ → ℕ = allowed_of constraints stretches in
     ap (λ (k : ℕ). sum_by f (filter out (range_with_len 0 k))) is.count
@@ -175,29 +173,26 @@ filtered-one : (f : ℕ → ℕ) (b : Bool) (k : ℕ) → sum_by f (cond b (k �
 filtered-one f true k = omega arith
 filtered-one f false k = refl
 
-outside-more : (f : ℕ → ℕ) (teams : List ℕ) (k : ℕ)
-    → sum_by f (filter (λ i. not (is_in i teams)) (range_with_len 0 (k + 1)))
-    ≡ sum_by f (filter (λ i. not (is_in i teams)) (range_with_len 0 k)) + cond (not (is_in k teams)) (f k) 0
-outside-more f teams k =
-    let out : ℕ → Bool = λ i. not (is_in i teams) in
+passing-more : (f : ℕ → ℕ) (p : ℕ → Bool) (k : ℕ)
+    → sum_by f (filter p (range_with_len 0 (k + 1))) ≡ sum_by f (filter p (range_with_len 0 k)) + cond (p k) (f k) 0
+passing-more f p k =
     let place : 0 + k ≡ k = omega arith in
-    ap (λ (xs : List ℕ). sum_by f (filter out xs)) (range_with_len-more 0 k)
-    ∙ ap (λ (x : ℕ). sum_by f (filter out (range_with_len 0 k ++ x ∷ []))) place
-    ∙ ap (sum_by f) (filter-append out (range_with_len 0 k) (k ∷ []))
-    ∙ sum_by-append f (filter out (range_with_len 0 k)) (cond (out k) (k ∷ []) [])
-    ∙ ap (λ (x : ℕ). sum_by f (filter out (range_with_len 0 k)) + x) (filtered-one f (out k) k)
+    ap (λ (xs : List ℕ). sum_by f (filter p xs)) (range_with_len-more 0 k)
+    ∙ ap (λ (x : ℕ). sum_by f (filter p (range_with_len 0 k ++ x ∷ []))) place
+    ∙ ap (sum_by f) (filter-append p (range_with_len 0 k) (k ∷ []))
+    ∙ sum_by-append f (filter p (range_with_len 0 k)) (cond (p k) (k ∷ []) [])
+    ∙ ap (λ (x : ℕ). sum_by f (filter p (range_with_len 0 k)) + x) (filtered-one f (p k) k)
 
-pub outside-taken : (f : ℕ → ℕ) (teams : List ℕ) (k so_far next : ℕ)
-    → so_far ≡ sum_by f (filter (λ i. not (is_in i teams)) (range_with_len 0 k)) → is_in k teams ≡ false
-    → next ≡ so_far + f k → next ≡ sum_by f (filter (λ i. not (is_in i teams)) (range_with_len 0 (k + 1)))
-outside-taken f teams k so_far next is out more =
-    omega (arith, more, is, outside-more f teams k, ap (λ (b : Bool). cond (not b) (f k) 0) out)
+pub passing-taken : (f : ℕ → ℕ) (p : ℕ → Bool) (k so_far next : ℕ)
+    → so_far ≡ sum_by f (filter p (range_with_len 0 k)) → p k ≡ true → next ≡ so_far + f k
+    → next ≡ sum_by f (filter p (range_with_len 0 (k + 1)))
+passing-taken f p k so_far next is passes more =
+    omega (arith, more, is, passing-more f p k, ap (λ (b : Bool). cond b (f k) 0) passes)
 
-pub outside-left : (f : ℕ → ℕ) (teams : List ℕ) (k so_far next : ℕ)
-    → so_far ≡ sum_by f (filter (λ i. not (is_in i teams)) (range_with_len 0 k)) → is_in k teams ≡ true
-    → next ≡ so_far → next ≡ sum_by f (filter (λ i. not (is_in i teams)) (range_with_len 0 (k + 1)))
-outside-left f teams k so_far next is within same =
-    omega (arith, same, is, outside-more f teams k, ap (λ (b : Bool). cond (not b) (f k) 0) within)
+pub passing-left : (f : ℕ → ℕ) (p : ℕ → Bool) (k so_far next : ℕ) → so_far ≡ sum_by f (filter p (range_with_len 0 k))
+    → p k ≡ false → next ≡ so_far → next ≡ sum_by f (filter p (range_with_len 0 (k + 1)))
+passing-left f p k so_far next is fails same =
+    omega (arith, same, is, passing-more f p k, ap (λ (b : Bool). cond b (f k) 0) fails)
 
 -- a class that is no BR2
 abbrev pub IsNoBr2 : Class → Type 0

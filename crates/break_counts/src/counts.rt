@@ -5,6 +5,7 @@ ghost use Rattle.encoding.specs.Limit.{most_terms};
 ghost use Rattle.encoding_base.specs.Encoding.{encoding_size};
 ghost use Rattle.venue_counts.specs.CountLogs.{IsRefuting};
 ghost use Rattle.break_counts.specs.BreakCounts.{are_few};
+ghost use Rattle.break_counts.specs.Sums.{AddUp};
 
 use crate::lines::has_short_lines;
 use crate::log::{log_of, log_of_sum};
@@ -49,13 +50,14 @@ pub fn break_count(alloc: Global, league: &League) -> Result<Option<Log>, AllocE
     Ok(Some(log))
 }
 
-/// A log that refutes a league, where hard constraints BR1 and BR2 that are added up allow its teams too few breaks, and
-/// such are found. It is checked before it is given.
+/// A log that refutes a league, where hard constraints BR1 and BR2 allow its teams too few breaks together, and such are
+/// found. It is checked before it is given.
 ///
 /// # Errors
 /// Only where memory runs out.
 pub fn break_sum(alloc: Global, league: &League) -> Result<Option<Log>, AllocError>
     requires small { encoding_size league.now ≤ most_terms }
+    ensures few { IfOk result (λ found. IfSome found (λ log. AddUp league.now)) }
     ensures refuting { IfOk result (λ found. IfSome found (IsRefuting league.now)) }
 
     // What holds of every league.

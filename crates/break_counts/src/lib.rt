@@ -19,13 +19,15 @@ mod searched;
 mod shortage;
 mod stretch;
 mod sums;
+mod together;
 mod writer;
 
 pub use clique::add_clique;
 pub use counts::{break_count, break_sum};
 pub use cover::covers;
 pub use frame::Frame;
-pub use laws::few_breaks_allow_none;
+pub use laws::{added_breaks_allow_none, few_breaks_allow_none};
 pub use lines::has_short_lines;
 pub use stretch::Stretch;
+pub use together::Summand;
 pub use writer::Writer;

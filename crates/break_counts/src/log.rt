@@ -8,7 +8,7 @@ use crate::clique::add_clique;
 use crate::cover::{covers, has};
 use crate::frame::Frame;
 use crate::stretch::Stretch;
-use crate::sums::{Sum, is_covered};
+use crate::sums::Sum;
 use crate::writer::Writer;
 use encoding::Encoding;
 use league::{Class, League, Side};
@@ -142,7 +142,7 @@ fn counted_teams(
     Ok(counted)
 }
 
-/// The teams that bounds cover which are added up, and those that hard BR1 bound in these stretches.
+/// The teams of which bounds that are added up count each break, and those that hard BR1 bound in these stretches.
 fn added_teams(
     alloc: Global,
     league: &League,
@@ -159,12 +159,12 @@ fn added_teams(
     };
     for summand in &sum.summands {
         if let Some(constraint) = league.constraints().get(summand.place) {
-            let team = summand.team.unwrap_or(0);
-            add_row(alloc, encoding, &constraint.class, team, &mut counted.rows)?;
+            let class = &constraint.class;
+            add_row(alloc, encoding, class, summand.team, &mut counted.rows)?;
         }
     }
     for team in 0..n {
-        if is_covered(&sum.covered, usize::from(team))
+        if has(&sum.counted, team)
             || add_single(
                 alloc,
                 league,

@@ -1,52 +1,54 @@
 //! Bounds of breaks that are added up: hard constraints BR1 and BR2 that count, one beside another, each break of some
 //! teams.
-ghost use Rattle.std.specs.Prelude.{◌+◌, ◌≤◌, length, IfOk, IfSome};
+ghost use Rattle.std.specs.Prelude.{◌≡◌, ◌+◌, ◌≤◌, true, length, IfOk, IfSome};
 ghost use Rattle.std.specs.List.{All};
 ghost use Rattle.league.specs.Instance.{IsInstance};
+ghost use Rattle.break_counts.specs.Sums.{are_few_together, is_few_together};
 ghost use Rattle.break_counts.specs.Tables.{AreInSeason};
 
 use crate::allowed::allowed_of;
 use crate::cover::has;
 use crate::stretch::Stretch;
+use crate::together::{Summand, allowed_together, counted_teams};
 use league::{Class, League, Side, slot_count};
 use std::alloc::{AllocError, Global};
 
-/// A bound of breaks by the hard constraint at a place: of all teams of a BR2 together, or of one team of a BR1. Of the
-/// slots at which a break counts it counts those of these bits.
+/// A bound that may be added up. Of the slots at which a break counts it counts those of these bits.
 #[derive(Clone, Copy)]
-pub(crate) struct Summand {
-    pub(crate) place: usize,
-    pub(crate) team: Option<u16>,
+struct Candidate {
+    summand: Summand,
+    together: bool,
     slots: u128,
     intp: u32,
 }
 
-impl Summand {
+impl Candidate {
     /// Whether it counts breaks of a team.
     fn counts(self, league: &League, team: u16) -> bool {
-        if let Some(one) = self.team {
-            return one == team;
+        if !self.together {
+            return self.summand.team == team;
         }
-        match league.constraints().get(self.place) {
+        match league.constraints().get(self.summand.place) {
             Some(constraint) => has(teams_of(&constraint.class), team),
             None => false,
         }
     }
 }
 
-/// Stretches in which bounds that are added up allow too few breaks, and the teams of which they count each break.
+/// Stretches in which bounds allow too few breaks together, and the teams of which they count each break.
 #[derive(Drop)]
 pub(crate) struct Sum {
     pub(crate) stretches: Vec<Stretch>,
     pub(crate) summands: Vec<Summand>,
-    pub(crate) covered: Vec<bool>,
+    pub(crate) counted: Vec<u16>,
 }
 
-/// Bounds that allow too few breaks if they are added up, where such are found.
+/// Bounds that allow too few breaks together, where such are found.
 ///
 /// # Errors
 /// Only where memory runs out.
 pub(crate) fn find_sum(alloc: Global, league: &League) -> Result<Option<Sum>, AllocError>
+    ensures few { IfOk result (λ found. IfSome found (λ s. are_few_together league.now s.summands.items ≡ true)) }
     ensures stretches { IfOk result (λ found. IfSome found (λ s. AreInSeason league.now.n s.stretches.items)) }
     ensures instance { IsInstance league.now }
 {
@@ -77,8 +79,7 @@ pub(crate) fn find_sum(alloc: Global, league: &League) -> Result<Option<Sum>, Al
     sum_in(alloc, league, &[first, second])
 }
 
-/// Bounds that allow too few breaks in these stretches if they are added up, where such are found: first those that
-/// allow least for each break that they count, no two of which count the same break.
+/// Bounds that allow too few breaks together in these stretches, where such are found.
 ///
 /// # Errors
 /// Only where memory runs out.
@@ -86,50 +87,42 @@ fn sum_in(alloc: Global, league: &League, stretches: &[Stretch]) -> Result<Optio
     requires few { length stretches.now ≤ 2 }
     requires within { All (λ t. t.first + t.count ≤ 78) stretches.now }
     requires season { AreInSeason league.now.n stretches.now }
-    ensures { IfOk result (λ found. IfSome found (λ s. AreInSeason league.now.n s.stretches.items)) }
+    ensures few { IfOk result (λ found. IfSome found (λ s.
+        is_few_together league.now.n league.now.constraints s.summands.items stretches.now ≡ true)) }
+    ensures stretches { IfOk result (λ found. IfSome found (λ s. AreInSeason league.now.n s.stretches.items)) }
 {
-    let later = later_bits(stretches);
-    let all = all_summands(alloc, league, later)?;
-    let taken = apart(alloc, league, &all)?;
-    let covered = covered_by(alloc, league, &taken, later)?;
-    let summands = needed_of(alloc, league, &taken, &covered)?;
+    let n = league.n();
+    let summands = chosen(alloc, league, later_bits(stretches))?;
     let allowed = allowed_of(alloc, league, stretches)?;
-    let total = total_of(&summands).saturating_add(total_beside(&allowed, &covered));
-    let needed = stretches.len() as u64 * u64::from(league.n() - 2);
-    if summands.is_empty() || total >= needed {
+    let needed = stretches.len() as u64 * u64::from(n - 2);
+    if summands.is_empty() || allowed_together(league, &summands, stretches, &allowed) >= needed {
         return Ok(None);
     }
+    let counted = counted_teams(alloc, league, &summands, stretches)?;
     let mut kept = Vec::new(alloc);
     kept.extend_from_slice(stretches)?;
     Ok(Some(Sum {
         stretches: kept,
         summands,
-        covered,
+        counted,
     }))
 }
 
-/// What bounds allow together.
-fn total_of(summands: &[Summand]) -> u64 {
-    let mut total = 0u64;
-    for summand in summands {
-        total = total.saturating_add(u64::from(summand.intp));
-    }
-    total
-}
-
-/// What is allowed to the teams that aren't covered.
-fn total_beside(allowed: &[u32], covered: &[bool]) -> u64 {
-    let mut total = 0u64;
-    for team in 0..allowed.len() {
-        if !is_covered(covered, team) {
-            total = total.saturating_add(u64::from(allowed[team]));
-        }
-    }
-    total
+/// Bounds that may allow too few breaks together at slots of these bits: first those that allow least for each break
+/// that they count, no two of which count the same break. Those that are left count a break of a team each of whose
+/// breaks is counted.
+///
+/// # Errors
+/// Only where memory runs out.
+fn chosen(alloc: Global, league: &League, later: u128) -> Result<Vec<Summand>, AllocError> {
+    let all = all_candidates(alloc, league, later)?;
+    let taken = apart(alloc, league, &all)?;
+    let covered = covered_by(alloc, league, &taken, later)?;
+    needed_of(alloc, league, &taken, &covered)
 }
 
 /// Whether a team is covered.
-pub(crate) fn is_covered(covered: &[bool], team: usize) -> bool {
+fn is_covered(covered: &[bool], team: usize) -> bool {
     match covered.get(team) {
         Some(covered) => *covered,
         None => false,
@@ -140,13 +133,17 @@ pub(crate) fn is_covered(covered: &[bool], team: usize) -> bool {
 ///
 /// # Errors
 /// Only where memory runs out.
-fn all_summands(alloc: Global, league: &League, later: u128) -> Result<Vec<Summand>, AllocError> {
+fn all_candidates(
+    alloc: Global,
+    league: &League,
+    later: u128,
+) -> Result<Vec<Candidate>, AllocError> {
     let mut found = Vec::new(alloc);
     let constraints = league.constraints();
     for place in 0..constraints.len() {
         let constraint = &constraints[place];
         if constraint.hard {
-            add_summands(&mut found, &constraint.class, place, later)?;
+            add_candidates(&mut found, &constraint.class, place, later)?;
         }
     }
     Ok(found)
@@ -156,8 +153,8 @@ fn all_summands(alloc: Global, league: &League, later: u128) -> Result<Vec<Summa
 ///
 /// # Errors
 /// Only where memory runs out.
-fn add_summands(
-    found: &mut Vec<Summand>,
+fn add_candidates(
+    found: &mut Vec<Candidate>,
     class: &Class,
     place: usize,
     later: u128,
@@ -174,9 +171,9 @@ fn add_summands(
                 return Ok(());
             }
             for team in teams.numbers() {
-                found.push(Summand {
-                    place,
-                    team: Some(*team),
+                found.push(Candidate {
+                    summand: Summand { place, team: *team },
+                    together: false,
                     slots: bits,
                     intp: *intp,
                 })?;
@@ -192,9 +189,9 @@ fn add_summands(
             if bits == 0 {
                 return Ok(());
             }
-            found.push(Summand {
-                place,
-                team: None,
+            found.push(Candidate {
+                summand: Summand { place, team: 0 },
+                together: true,
                 slots: bits,
                 intp: *intp,
             })?;
@@ -208,7 +205,11 @@ fn add_summands(
 ///
 /// # Errors
 /// Only where memory runs out.
-fn apart(alloc: Global, league: &League, all: &[Summand]) -> Result<Vec<Summand>, AllocError> {
+fn apart(
+    alloc: Global,
+    league: &League,
+    all: &[Candidate],
+) -> Result<Vec<Candidate>, AllocError> {
     let mut order = Vec::with_capacity(alloc, all.len())?;
     for k in 0..all.len() {
         order.push((share(league, all[k]), k))?;
@@ -217,10 +218,10 @@ fn apart(alloc: Global, league: &League, all: &[Summand]) -> Result<Vec<Summand>
     let mut counted = Vec::new(alloc);
     let mut taken = Vec::new(alloc);
     for ranked in &order {
-        if let Some(summand) = all.get(ranked.1) {
-            if is_apart(league, &counted, *summand) {
-                counted = marked(alloc, league, &counted, *summand)?;
-                taken.push(*summand)?;
+        if let Some(candidate) = all.get(ranked.1) {
+            if is_apart(league, &counted, *candidate) {
+                counted = marked(alloc, league, &counted, *candidate)?;
+                taken.push(*candidate)?;
             }
         }
     }
@@ -228,21 +229,21 @@ fn apart(alloc: Global, league: &League, all: &[Summand]) -> Result<Vec<Summand>
 }
 
 /// How much a bound allows for each break that it counts, in parts of 2^20.
-fn share(league: &League, summand: Summand) -> u64 {
+fn share(league: &League, candidate: Candidate) -> u64 {
     let mut teams = 0u64;
     for team in 0..league.n() {
-        if summand.counts(league, team) {
+        if candidate.counts(league, team) {
             teams = teams.saturating_add(1);
         }
     }
-    let breaks = teams.saturating_mul(u64::from(summand.slots.count_ones()));
-    (u64::from(summand.intp) << 20) / breaks.max(1)
+    let breaks = teams.saturating_mul(u64::from(candidate.slots.count_ones()));
+    (u64::from(candidate.intp) << 20) / breaks.max(1)
 }
 
 /// Whether a bound counts no break that is counted so far.
-fn is_apart(league: &League, counted: &[u128], summand: Summand) -> bool {
+fn is_apart(league: &League, counted: &[u128], candidate: Candidate) -> bool {
     for team in 0..league.n() {
-        if summand.slots & slots_of(counted, team) != 0 && summand.counts(league, team) {
+        if candidate.slots & slots_of(counted, team) != 0 && candidate.counts(league, team) {
             return false;
         }
     }
@@ -257,13 +258,13 @@ fn marked(
     alloc: Global,
     league: &League,
     counted: &[u128],
-    summand: Summand,
+    candidate: Candidate,
 ) -> Result<Vec<u128>, AllocError> {
     let mut marked = Vec::new(alloc);
     for team in 0..league.n() {
         let slots = slots_of(counted, team);
-        if summand.counts(league, team) {
-            marked.push(slots | summand.slots)?;
+        if candidate.counts(league, team) {
+            marked.push(slots | candidate.slots)?;
         } else {
             marked.push(slots)?;
         }
@@ -286,12 +287,12 @@ fn slots_of(counted: &[u128], team: u16) -> u128 {
 fn covered_by(
     alloc: Global,
     league: &League,
-    taken: &[Summand],
+    taken: &[Candidate],
     later: u128,
 ) -> Result<Vec<bool>, AllocError> {
     let mut counted = Vec::new(alloc);
-    for summand in taken {
-        counted = marked(alloc, league, &counted, *summand)?;
+    for candidate in taken {
+        counted = marked(alloc, league, &counted, *candidate)?;
     }
     let mut covered = Vec::new(alloc);
     for team in 0..league.n() {
@@ -307,22 +308,22 @@ fn covered_by(
 fn needed_of(
     alloc: Global,
     league: &League,
-    taken: &[Summand],
+    taken: &[Candidate],
     covered: &[bool],
 ) -> Result<Vec<Summand>, AllocError> {
     let mut needed = Vec::new(alloc);
-    for summand in taken {
-        if counts_some(league, *summand, covered) {
-            needed.push(*summand)?;
+    for candidate in taken {
+        if counts_some(league, *candidate, covered) {
+            needed.push(candidate.summand)?;
         }
     }
     Ok(needed)
 }
 
 /// Whether a bound counts a break of one of these teams.
-fn counts_some(league: &League, summand: Summand, covered: &[bool]) -> bool {
+fn counts_some(league: &League, candidate: Candidate, covered: &[bool]) -> bool {
     for team in 0..league.n() {
-        if is_covered(covered, usize::from(team)) && summand.counts(league, team) {
+        if is_covered(covered, usize::from(team)) && candidate.counts(league, team) {
             return true;
         }
     }

@@ -26,7 +26,7 @@ returns-then-covers c =
       c.from.ensures,
       c.total_outside.ensures.sum,
       outside-total league.n league.constraints c.args.stretches.now c.args.allowed.now
-          c.numbers-then-covers.result.now c.requires.table,
+          (λ i. not (is_in i c.numbers-then-covers.result.now)) c.requires.table,
       ap (λ (teams : List ℕ). sum_by (allowed_of league.constraints c.args.stretches.now)
           (filter (λ i. not (is_in i teams)) (teams_of league.n))) c.numbers-then-covers.ensures.numbers,
     )
