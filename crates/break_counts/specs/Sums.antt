@@ -30,7 +30,7 @@ most_breaks (Br1 teams intp side slots) = intp
 most_breaks (Br2 teams intp slots) = intp
 most_breaks class = 0
 
--- the same of the constraint at the place of a bound, if it is hard
+-- whether a bound counts the break of team i at slot s: it does if its constraint is hard and counts it
 abbrev pub counts : List Constraint → ℕ → ℕ → Summand → Bool
 counts constraints i s bound =
     option_map_or (λ c. c.hard && counts_break c.class bound.team i s) (slice_get constraints bound.place) false
@@ -44,8 +44,8 @@ abbrev pub is_counted : List Constraint → List Summand → List Stretch → �
 is_counted constraints bounds stretches i =
     list_all (λ t. list_all (λ s. list_any (counts constraints i s) bounds) (later_slots t)) stretches
 
--- in how many of the stretches all teams may have breaks: as many as the bounds allow together, and each team of which
--- they don't count all breaks by its own bound
+-- In how many stretches each team may have breaks, added up over all teams. It is what the bounds allow together, and
+-- beside them what each team is allowed by itself of which they don't count all breaks.
 abbrev pub allowed_together : ℕ → List Constraint → List Summand → List Stretch → ℕ
 allowed_together n constraints bounds stretches =
     sum_by (allows constraints) bounds

@@ -17,8 +17,8 @@ pub struct Summand {
     pub team: u16,
 }
 
-/// In how many of the stretches all teams may have breaks, by what bounds allow together, and what each team is allowed
-/// whose breaks they don't count: or 2^64 - 1 where that is less.
+/// In how many stretches each team may have breaks, added up over all teams: what bounds allow together, and what each
+/// team is allowed by itself whose breaks they don't count. It is 2^64 - 1 where that is less.
 pub(crate) fn allowed_together(
     league: &League,
     summands: &[Summand],
