@@ -1,11 +1,15 @@
 //! The analysis of a conflict: down the trail, until the row that comes of it isn't quiet at the end of a lower level. It is
 //! that of RoundingSat: each reason is divided by what it counts of the literal that it forces.
+ghost use Rattle.std.specs.Prelude.{◌≡◌, IfOk};
+ghost use Rattle.std.specs.Bool.{OnTrue};
+ghost use Rattle.planes.specs.Small.{AreSmall, LeavesSmall};
+
 use crate::desk::Tools;
-use crate::numbers::{divided, rest};
+use crate::numbers::divided;
 use crate::order::Order;
-use crate::reason::{Point, Scaled};
+use crate::reason::{Point, Scaled, open_rest};
 use crate::stock::Stock;
-use crate::trail::{Entry, Standing, Trail};
+use crate::trail::{Entry, Moment, Standing, Trail};
 use rows::Lit;
 use std::alloc::AllocError;
 
@@ -13,7 +17,7 @@ use std::alloc::AllocError;
 const LARGE: i64 = 1_000_000_000;
 
 /// What an analysis came to.
-#[derive(Clone, Copy, Debug)]
+#[derive(Clone, Copy)]
 pub(crate) enum Outcome {
     /// A row that isn't quiet at the end of a level below the present one.
     Active,
@@ -23,7 +27,7 @@ pub(crate) enum Outcome {
     Nothing,
 }
 
-/// Works a row out from the row in conflict at a place.
+/// Works a row out from the row in conflict at a place. None of its coefficients is above the limit.
 ///
 /// # Errors
 /// Only where memory runs out.
@@ -33,8 +37,12 @@ pub(crate) fn cut(
     order: &mut Order,
     tools: &mut Tools,
     row: usize,
-) -> Result<Outcome, AllocError> {
-    begin(stock, trail, order, tools, row)?;
+) -> Result<Outcome, AllocError>
+    ensures { IfOk result (λ outcome. LeavesSmall outcome tools.new.plane.counts) }
+{
+    if !begin(stock, trail, order, tools, row)? {
+        return Ok(Outcome::Nothing);
+    }
     let len = trail.len();
     let mut level = trail.level();
     let mut is_fresh = true;
@@ -52,7 +60,7 @@ pub(crate) fn cut(
         let Some(entry) = trail.entry(place) else {
             return Ok(Outcome::Nothing);
         };
-        is_fresh = entry.level <= level && tools.plane.coef(entry.lit.negate()) > 0;
+        is_fresh = entry.level <= level && tools.plane.counts.coef(entry.lit.negate()) > 0;
         if is_fresh && !resolve(stock, trail, order, tools, entry, place)? {
             return Ok(Outcome::Nothing);
         }
@@ -60,16 +68,18 @@ pub(crate) fn cut(
     Ok(Outcome::Nothing)
 }
 
-/// Begins with the row at a place.
+/// Begins with the row at a place. It says whether its coefficients are small.
 fn begin(
     stock: &Stock,
     trail: &Trail,
     order: &mut Order,
     tools: &mut Tools,
     row: usize,
-) -> Result<(), AllocError> {
+) -> Result<bool, AllocError>
+    ensures { IfOk result (λ done. OnTrue done (AreSmall tools.new.plane.counts)) }
+{
     let Some(held) = stock.row(row) else {
-        return Ok(());
+        return Ok(false);
     };
     tools
         .plane
@@ -77,11 +87,13 @@ fn begin(
     for term in &held.terms {
         order.raise(term.lit);
     }
-    Ok(())
+    make_small(trail, tools, trail.len())
 }
 
 /// The lowest level up to the given one at whose end the row is in conflict; 0 where it is so at the end of level 0.
-fn lowest_conflict(trail: &Trail, tools: &mut Tools, level: usize) -> usize {
+fn lowest_conflict(trail: &Trail, tools: &mut Tools, level: usize) -> usize
+    ensures { tools.new.plane.counts ≡ tools.old.plane.counts }
+{
     for back in 0..level {
         let below = level - back - 1;
         if !tools.plane.is_in_conflict(trail, below) {
@@ -99,7 +111,9 @@ fn resolve(
     tools: &mut Tools,
     entry: Entry,
     place: usize,
-) -> Result<bool, AllocError> {
+) -> Result<bool, AllocError>
+    ensures { IfOk result (λ done. OnTrue done (AreSmall tools.new.plane.counts)) }
+{
     let Some(row) = entry.reason else {
         return Ok(false);
     };
@@ -117,13 +131,10 @@ fn resolve(
     {
         return Ok(false);
     }
-    let times = tools.plane.coef(entry.lit.negate());
+    let times = tools.plane.counts.coef(entry.lit.negate());
     tools.plane.add_reason(trail, times, &tools.reason)?;
     raise_false(trail, order, &tools.reason.terms, place);
-    if tools.plane.is_too_large() {
-        return shrink(trail, tools, place);
-    }
-    Ok(true)
+    make_small(trail, tools, place)
 }
 
 /// Makes the variables more active whose literals in a reason were false before a place, above level 0.
@@ -140,21 +151,27 @@ fn raise_false(trail: &Trail, order: &mut Order, terms: &[Scaled], limit: usize)
     }
 }
 
-/// Divides the row so that its coefficients are small again, and says whether it could. Before that all that wasn't false
-/// before a place is weakened to multiples.
-fn shrink(trail: &Trail, tools: &mut Tools, place: usize) -> Result<bool, AllocError> {
-    let divisor = divided(tools.plane.greatest_coef(), LARGE);
-    for k in 0..tools.plane.len() {
-        let Some((lit, coef)) = tools.plane.term(k) else {
+/// Divides the row if its coefficients are too large, so that they are small again, and says whether they are. Before that
+/// all that wasn't false before a place is weakened to multiples.
+fn make_small(trail: &Trail, tools: &mut Tools, place: usize) -> Result<bool, AllocError>
+    ensures { IfOk result (λ done. OnTrue done (AreSmall tools.new.plane.counts)) }
+{
+    if !tools.plane.counts.is_too_large() {
+        return Ok(true);
+    }
+    let divisor = divided(tools.plane.counts.greatest(), LARGE);
+    let moment = Moment::Before { place };
+    for k in 0..tools.plane.counts.len() {
+        let Some((lit, coef)) = tools.plane.counts.term(k) else {
             continue;
         };
-        let less = rest(coef, divisor);
-        if less > 0 && !trail.is_false_before(lit, place) && !weaken(tools, lit, less)? {
+        let less = open_rest(trail, moment, lit, coef, divisor);
+        if less > 0 && !weaken(tools, lit, less)? {
             return Ok(false);
         }
     }
     tools.plane.divide(&mut tools.draft, divisor)?;
-    Ok(true)
+    Ok(!tools.plane.counts.is_too_large())
 }
 
 /// Takes so much off what a literal counts, and says whether it could.

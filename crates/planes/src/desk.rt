@@ -1,4 +1,7 @@
 //! What a search keeps.
+ghost use Rattle.std.specs.Prelude.{◌≡◌, min, OnOk};
+ghost use Rattle.planes.specs.Trails.{level_of};
+
 use crate::axioms::Axioms;
 use crate::draft::Draft;
 use crate::order::Order;
@@ -93,11 +96,11 @@ impl Desk {
     ///
     /// # Errors
     /// Only where memory runs out.
-    pub(crate) fn back_to(&mut self, level: usize) -> Result<(), AllocError> {
-        for _entry in 0..self.trail.len().saturating_add(1) {
-            let Some((lit, did_count)) = self.trail.pop_above(level) else {
-                return Ok(());
-            };
+    pub(crate) fn back_to(&mut self, level: usize) -> Result<(), AllocError>
+        ensures level { OnOk result (level_of self.new.trail ≡ min level (level_of self.old.trail)) }
+        ensures tools { self.new.tools ≡ self.old.tools }
+    {
+        'entries: while let Some((lit, did_count)) = self.trail.pop_above(level) {
             if did_count {
                 self.stock.count_back(lit);
             }

@@ -5,7 +5,7 @@ use rows::{Lit, RowStore, Term};
 
 /// Where two groups stand that have no variable in common, each as two rows one behind the other: at least one of its
 /// literals is true, and at most one.
-#[derive(Clone, Copy, Debug)]
+#[derive(Clone, Copy)]
 pub(crate) struct Groups {
     /// The place of the first row of the first group.
     pub(crate) least: usize,

@@ -1,5 +1,10 @@
 //! What is learnt from a conflict.
+ghost use Rattle.std.specs.Prelude.{IfOk, OnSome};
+ghost use Rattle.planes.specs.Slack.{IsActive};
+ghost use Rattle.planes.specs.Trails.{level_of};
+
 use crate::desk::{Desk, Tools};
+use crate::plane::Plane;
 use crate::round::round;
 use crate::search::Met;
 use crate::stock::{Held, Stock};
@@ -12,20 +17,36 @@ use std::alloc::{AllocError, Global};
 /// # Errors
 /// Only where memory runs out.
 pub(crate) fn learn(alloc: Global, desk: &mut Desk) -> Result<Met, AllocError> {
-    let Some(level) = round(&desk.trail, &mut desk.tools)? else {
-        return Ok(Met::Nothing);
-    };
-    let Some(held) = learnt_row(alloc, &desk.trail, &mut desk.tools)? else {
+    let Some(held) = jump(alloc, desk)? else {
         return Ok(Met::Nothing);
     };
     let slack = desk.tools.plane.slack;
-    desk.back_to(level)?;
     let row = desk.stock.add(held, slack)?;
     if desk.stock.force(&mut desk.trail, row)? {
         Ok(Met::Again(row))
     } else {
         Ok(Met::Learnt)
     }
+}
+
+/// Makes the row short to which an analysis came, and jumps back to the end of a level at which it isn't quiet. The answer
+/// is the row, if there is such a level and its coefficients are of 32 bits.
+///
+/// # Errors
+/// Only where memory runs out.
+fn jump(alloc: Global, desk: &mut Desk) -> Result<Option<Held>, AllocError>
+    ensures { IfOk result
+        (λ found. OnSome found (IsActive desk.new.tools.plane desk.old.trail (level_of desk.new.trail))) }
+{
+    let Some(level) = round(&desk.trail, &mut desk.tools)? else {
+        return Ok(None);
+    };
+    let tools = &mut desk.tools;
+    let Some(held) = learnt_row(alloc, &desk.trail, &tools.plane, &mut tools.levels)? else {
+        return Ok(None);
+    };
+    desk.back_to(level)?;
+    Ok(Some(held))
 }
 
 /// Ends the steps by the row to which an analysis came, which is in conflict at level 0.
@@ -58,14 +79,19 @@ fn plan_end(trail: &Trail, stock: &Stock, tools: &mut Tools, row: usize) -> Resu
 /// The row to which an analysis came, once its step is planned, if its coefficients are of 32 bits.
 fn last_row(alloc: Global, trail: &Trail, tools: &mut Tools) -> Result<Option<Held>, AllocError> {
     tools.plane.divide(&mut tools.draft, 1)?;
-    learnt_row(alloc, trail, tools)
+    learnt_row(alloc, trail, &tools.plane, &mut tools.levels)
 }
 
 /// The row to which an analysis came, whose step is planned, if its coefficients are of 32 bits.
-fn learnt_row(alloc: Global, trail: &Trail, tools: &mut Tools) -> Result<Option<Held>, AllocError> {
+fn learnt_row(
+    alloc: Global,
+    trail: &Trail,
+    plane: &Plane,
+    levels: &mut Vec<usize>,
+) -> Result<Option<Held>, AllocError> {
     let mut terms = Vec::new(alloc);
-    for k in 0..tools.plane.len() {
-        let Some((lit, count)) = tools.plane.term(k) else {
+    for k in 0..plane.counts.len() {
+        let Some((lit, count)) = plane.counts.term(k) else {
             continue;
         };
         let Ok(coef) = u32::try_from(count) else {
@@ -73,11 +99,11 @@ fn learnt_row(alloc: Global, trail: &Trail, tools: &mut Tools) -> Result<Option<
         };
         terms.push(Term { coef, lit })?;
     }
-    let levels = count_levels(trail, &terms, &mut tools.levels)?;
+    let levels = count_levels(trail, &terms, levels)?;
     Ok(Some(Held {
         terms,
-        degree: tools.plane.degree,
-        number: tools.plane.number(),
+        degree: plane.degree,
+        number: plane.number(),
         levels,
     }))
 }

@@ -2,11 +2,14 @@
 //! is that of RoundingSat (Elffers and Nordström 2018), which adds rows up and divides them.
 //!
 //! Nothing is believed of the search. It plans the steps of a log, and what it plans is checked before it is given. So it
-//! owes no more than to be safe and to end, and most of what it keeps reads as absent where it isn't there.
+//! owes no more than to be safe and to end, and most of what it keeps reads as absent where it isn't there. Its functions
+//! still say how numbers are divided, what is taken off a literal, to which level a row jumps back, and that its
+//! coefficients stay within a limit.
 #![tactic(auto)]
 
 mod answer;
 mod axioms;
+mod counts;
 mod cut;
 mod desk;
 mod draft;

@@ -1,32 +1,43 @@
 //! The row that an analysis works out, as a table by variables.
+ghost use Rattle.std.specs.Prelude.{◌≡◌, ◌-◌, ◌^◌, ◌≤◌, ◌-ℤ◌, pos, OnOk};
+ghost use Rattle.std.specs.Bool.{OnTrue};
+ghost use Rattle.std.specs.Int.{saturate_signed, w64};
+ghost use Rattle.planes.specs.Numbers.{divided_up};
+ghost use Rattle.planes.specs.Slack.{free_at, free_of, IsActive, most_at, not_false_at, not_false_of, slack_at};
+
+use crate::counts::Counts;
 use crate::draft::Draft;
-use crate::numbers::{as_divisor, common, divided};
+use crate::numbers::{as_divisor, as_signed, as_unsigned, common, divided, size};
 use crate::parts::Parts;
 use crate::reason::Reason;
 use crate::trail::Trail;
 use rows::{Lit, Term};
 use std::alloc::{AllocError, Global};
 
-/// A coefficient above this is to be made smaller.
-const GREATEST: i64 = 1_000_000_000;
+/// What isn't false of a literal and its negation at the end of a level, and what is free of them.
+#[derive(Clone, Copy)]
+struct Share {
+    not_false: u64,
+    free: u64,
+}
+
+/// What a row comes to at the end of a level: its slack, and the greatest coefficient of a literal that is free there.
+#[derive(Clone, Copy)]
+struct Look {
+    slack: i64,
+    most: i64,
+}
 
 /// A row, and the parts of the step of which it is the sum. It only guides what is planned: nothing need be right of it.
 #[derive(Drop)]
 pub(crate) struct Plane {
-    /// What each variable counts, from variable 1 on: below 0 what its negation counts.
-    coefs: Vec<i64>,
-    /// Whether each variable is among the touched ones.
-    listed: Vec<bool>,
-    /// The variables that had a part, as literals.
-    touched: Vec<Lit>,
+    pub(crate) counts: Counts,
     pub(crate) degree: i64,
     pub(crate) parts: Parts,
     /// The level at whose end the slack is this, and a coefficient that is free there at most so great.
     level: Option<usize>,
     pub(crate) slack: i64,
     pub(crate) most: i64,
-    /// No coefficient was greater.
-    greatest: i64,
 }
 
 impl Plane {
@@ -36,15 +47,12 @@ impl Plane {
     /// Only where memory runs out.
     pub(crate) fn new(alloc: Global, vars: u32) -> Result<Plane, AllocError> {
         Ok(Plane {
-            coefs: vec![in alloc; 0; vars as usize + 1]?,
-            listed: vec![in alloc; false; vars as usize + 1]?,
-            touched: Vec::new(alloc),
+            counts: Counts::new(alloc, vars)?,
             degree: 0,
             parts: Parts::new(alloc),
             level: None,
             slack: 0,
             most: 0,
-            greatest: 0,
         })
     }
 
@@ -59,49 +67,14 @@ impl Plane {
         degree: i64,
         number: u64,
     ) -> Result<(), AllocError> {
-        clear_touched(&mut self.coefs, &mut self.listed, &self.touched);
-        self.touched.clear();
+        self.counts.clear();
         self.parts.begin(number)?;
         self.degree = degree;
         self.level = None;
-        self.greatest = 0;
         for term in terms {
             self.add(trail, term.lit, i64::from(term.coef))?;
         }
         Ok(())
-    }
-
-    /// What a literal counts: 0 or less if its negation counts.
-    pub(crate) fn coef(&self, lit: Lit) -> i64 {
-        let coef = self.coefs.get(lit.var() as usize).copied().unwrap_or(0);
-        if lit.positive() {
-            coef
-        } else {
-            coef.saturating_neg()
-        }
-    }
-
-    /// How many variables had a part.
-    pub(crate) fn len(&self) -> usize {
-        self.touched.len()
-    }
-
-    /// The literal that counts of the kth variable that had a part, and what it counts. None where it counts nothing.
-    pub(crate) fn term(&self, k: usize) -> Option<(Lit, i64)> {
-        let lit = self.touched.get(k).copied()?;
-        let coef = self.coef(lit);
-        if coef > 0 {
-            Some((lit, coef))
-        } else if coef < 0 {
-            Some((lit.negate(), coef.saturating_neg()))
-        } else {
-            None
-        }
-    }
-
-    /// Whether a coefficient is to be made smaller.
-    pub(crate) fn is_too_large(&self) -> bool {
-        self.greatest > GREATEST
     }
 
     /// Adds a reason so many times.
@@ -128,80 +101,90 @@ impl Plane {
 
     /// Adds to what a literal counts. What its negation counts cancels.
     fn add(&mut self, trail: &Trail, lit: Lit, more: i64) -> Result<(), AllocError> {
-        let old = self.coef(lit);
+        let old = self.counts.coef(lit);
         let new = old.saturating_add(more);
-        self.list(lit)?;
-        self.write(lit, new);
+        self.counts.put(lit, new)?;
         if old < 0 {
             let cancelled = old.saturating_neg().min(more);
             self.degree = self.degree.saturating_sub(cancelled);
             self.slack = self.slack.saturating_add(cancelled);
         }
-        let size = new.saturating_abs();
-        self.greatest = self.greatest.max(size);
         let Some(level) = self.level else {
             return Ok(());
         };
         let side = trail.side(lit, level);
-        if side.is_none() {
-            self.most = self.most.max(size);
-        }
-        let reached = counted(new, side).saturating_sub(counted(old, side));
-        self.slack = self.slack.saturating_add(reached);
+        self.most = as_signed(free(new, side)).max(self.most);
+        let more = as_signed(not_false(new, side)).saturating_sub(as_signed(not_false(old, side)));
+        self.slack = self.slack.saturating_add(more);
         Ok(())
     }
 
-    /// Touches a literal's variable.
-    fn list(&mut self, lit: Lit) -> Result<(), AllocError> {
-        let at = lit.var() as usize;
-        if at < self.listed.len() && !self.listed[at] {
-            self.touched.push(lit)?;
-            self.listed[at] = true;
+    /// What a literal and its negation give the row at the end of a level.
+    #[tactic(auto, unfolding(crate::specs::Slack::not_false_at, crate::specs::Slack::free_at))]
+    fn share(&self, trail: &Trail, lit: Lit, level: usize) -> Share
+        ensures not_false { result.not_false ≡ not_false_at self.now.counts.coefs.items trail.now level lit }
+        ensures free { result.free ≡ free_at self.now.counts.coefs.items trail.now level lit }
+        ensures not_false_fits { result.not_false ≤ 2 ^ 63 - 1 }
+        ensures free_fits { result.free ≤ 2 ^ 63 - 1 }
+    {
+        let count = self.counts.coef(lit);
+        let side = trail.side(lit, level);
+        Share {
+            not_false: not_false(count, side),
+            free: free(count, side),
         }
-        Ok(())
     }
 
-    /// Writes what a literal counts.
-    fn write(&mut self, lit: Lit, count: i64) {
-        let signed = if lit.positive() {
-            count
-        } else {
-            count.saturating_neg()
-        };
-        if let Some(coef) = self.coefs.get_mut(lit.var() as usize) {
-            *coef = signed;
+    /// What the row comes to at the end of a level.
+    fn look(&self, trail: &Trail, level: usize) -> Look
+        ensures slack { result.slack ≡ saturate_signed w64 (slack_at self.now trail.now level) }
+        ensures most { result.most ≡ pos (most_at self.now trail.now level) }
+        ensures most_fits { most_at self.now trail.now level ≤ 2 ^ 63 - 1 }
+    {
+        let mut sum: u64 = 0;
+        let mut most: u64 = 0;
+        for lit in &self.counts.touched {
+            let share = self.share(trail, *lit, level);
+            sum = sum.saturating_add(share.not_false);
+            most = share.free.max(most);
+        }
+        Look {
+            slack: difference(sum, self.degree),
+            most: as_signed(most),
         }
     }
 
     /// Works the slack and the greatest free coefficient out for the end of a level.
-    pub(crate) fn look_at(&mut self, trail: &Trail, level: usize) {
-        let mut slack = self.degree.saturating_neg();
-        let mut most = 0;
-        for lit in &self.touched {
-            let count = self.coef(*lit);
-            let side = trail.side(*lit, level);
-            slack = slack.saturating_add(counted(count, side));
-            if side.is_none() {
-                most = count.saturating_abs().max(most);
-            }
-        }
+    fn look_at(&mut self, trail: &Trail, level: usize)
+        ensures slack { self.new.slack ≡ saturate_signed w64 (slack_at self.new trail.now level) }
+        ensures most { self.new.most ≡ pos (most_at self.new trail.now level) }
+        ensures most_fits { most_at self.new trail.now level ≤ 2 ^ 63 - 1 }
+        ensures counts { self.new.counts ≡ self.old.counts }
+    {
+        let look = self.look(trail, level);
         self.level = Some(level);
-        self.slack = slack;
-        self.most = most;
+        self.slack = look.slack;
+        self.most = look.most;
     }
 
     /// Whether the row forces a literal at the end of a level, or is in conflict there. It is looked at anew where that isn't
     /// known.
-    pub(crate) fn is_active(&mut self, trail: &Trail, level: usize) -> bool {
+    #[tactic(auto, using(crate::proofs::SlackLemmas::below_saturated))]
+    pub(crate) fn is_active(&mut self, trail: &Trail, level: usize) -> bool
+        ensures active { OnTrue result (IsActive self.new trail.now level) }
+        ensures counts { self.new.counts ≡ self.old.counts }
+    {
         if self.level == Some(level) && self.slack >= self.most {
             return false;
         }
         self.look_at(trail, level);
-        self.slack < self.most || self.slack < 0
+        self.slack < self.most
     }
 
     /// Whether the row is in conflict at the end of a level; it is looked at anew where the slack isn't of this level.
-    pub(crate) fn is_in_conflict(&mut self, trail: &Trail, level: usize) -> bool {
+    pub(crate) fn is_in_conflict(&mut self, trail: &Trail, level: usize) -> bool
+        ensures counts { self.new.counts ≡ self.old.counts }
+    {
         if self.level != Some(level) {
             self.look_at(trail, level);
         }
@@ -213,8 +196,8 @@ impl Plane {
     /// # Errors
     /// Only where memory runs out.
     pub(crate) fn weaken(&mut self, lit: Lit, less: i64, axiom: u64) -> Result<(), AllocError> {
-        let left = self.coef(lit).saturating_sub(less);
-        self.write(lit, left);
+        let left = self.counts.coef(lit).saturating_sub(less);
+        self.counts.write(lit, left);
         self.degree = self.degree.saturating_sub(less);
         self.level = None;
         self.parts.add(less, axiom)
@@ -225,8 +208,8 @@ impl Plane {
     /// # Errors
     /// Only where memory runs out.
     pub(crate) fn take_out(&mut self, lit: Lit, unit: u64) -> Result<(), AllocError> {
-        let count = self.coef(lit);
-        self.write(lit, 0);
+        let count = self.counts.coef(lit);
+        self.counts.write(lit, 0);
         self.level = None;
         self.parts.add(count, unit)
     }
@@ -235,17 +218,12 @@ impl Plane {
     ///
     /// # Errors
     /// Only where memory runs out.
-    pub(crate) fn divide(&mut self, draft: &mut Draft, divisor: i64) -> Result<(), AllocError> {
+    pub(crate) fn divide(&mut self, draft: &mut Draft, divisor: i64) -> Result<(), AllocError>
+        ensures { OnOk result (self.new.degree ≡ pos (divided_up self.old.degree divisor)) }
+    {
         let number = draft.plan_sum(&self.parts, as_divisor(divisor))?;
         self.parts.begin(number)?;
-        self.greatest = 0;
-        for k in 0..self.touched.len() {
-            if let Some((lit, coef)) = self.term(k) {
-                let count = divided(coef, divisor);
-                self.greatest = self.greatest.max(count);
-                self.write(lit, count);
-            }
-        }
+        self.counts.divide(divisor);
         self.degree = divided(self.degree, divisor);
         self.level = None;
         Ok(())
@@ -261,10 +239,10 @@ impl Plane {
         lits: &mut Vec<Lit>,
     ) -> Result<(), AllocError> {
         lits.clear();
-        for k in 0..self.touched.len() {
-            if let Some((lit, _coef)) = self.term(k) {
+        for k in 0..self.counts.len() {
+            if let Some((lit, _coef)) = self.counts.term(k) {
                 lits.push(lit)?;
-                self.write(lit, 1);
+                self.counts.write(lit, 1);
             }
         }
         let hint = self.number();
@@ -281,47 +259,49 @@ impl Plane {
         }
     }
 
-    /// The greatest coefficient.
-    pub(crate) fn greatest_coef(&self) -> i64 {
-        let mut most = 0;
-        for k in 0..self.touched.len() {
-            if let Some((_lit, coef)) = self.term(k) {
-                most = coef.max(most);
-            }
-        }
-        most
-    }
-
     /// The greatest number that divides all coefficients once these are divided, rounding up.
     pub(crate) fn common_divisor(&self, divisor: i64) -> i64 {
         let mut all = 0;
-        for k in 0..self.touched.len() {
-            if let Some((_lit, coef)) = self.term(k) {
-                all = common(divided(coef, divisor), all);
+        for k in 0..self.counts.len() {
+            if let Some((_lit, coef)) = self.counts.term(k) {
+                all = common(as_unsigned(divided(coef, divisor)), all);
             }
         }
-        all.max(1)
+        as_signed(all.max(1))
     }
 }
 
-/// What a literal or its negation adds to what a row can reach, where the literal counts so much.
-fn counted(count: i64, side: Option<bool>) -> i64 {
+/// What isn't false of a literal that counts so much and of its negation.
+fn not_false(count: i64, side: Option<bool>) -> u64
+    ensures value { result ≡ not_false_of count side }
+    ensures fits { result ≤ 2 ^ 63 - 1 }
+{
     match side {
-        None => count.saturating_abs(),
-        Some(true) => count.max(0),
-        Some(false) => count.saturating_neg().max(0),
+        None => size(count),
+        Some(true) => as_unsigned(count),
+        Some(false) => as_unsigned(count.saturating_neg()),
     }
 }
 
-/// Makes all that these variables count 0, and takes them off the list.
-fn clear_touched(coefs: &mut [i64], listed: &mut [bool], touched: &[Lit]) {
-    for lit in touched {
-        let at = lit.var() as usize;
-        if let Some(coef) = coefs.get_mut(at) {
-            *coef = 0;
-        }
-        if let Some(is_listed) = listed.get_mut(at) {
-            *is_listed = false;
-        }
+/// What is free of them.
+fn free(count: i64, side: Option<bool>) -> u64
+    ensures value { result ≡ free_of count side }
+    ensures fits { result ≤ 2 ^ 63 - 1 }
+{
+    match side {
+        None => size(count),
+        Some(_side) => 0,
+    }
+}
+
+/// A number less another one: the nearest number of 64 bits.
+fn difference(one: u64, other: i64) -> i64
+    ensures { result ≡ saturate_signed w64 (pos one -ℤ other) }
+{
+    let wide = i128::from(one) - i128::from(other);
+    if wide > i128::from(i64::MAX) {
+        i64::MAX
+    } else {
+        wide as i64
     }
 }

@@ -1,15 +1,19 @@
 //! The reason of a literal, divided so that it counts the literal once.
+ghost use Rattle.std.specs.Prelude.{◌≡◌, map, pos};
+ghost use Rattle.planes.specs.Numbers.{divided_up};
+ghost use Rattle.planes.specs.Dividing.{divided_term, taken_off};
+
 use crate::axioms::Axioms;
 use crate::draft::Draft;
 use crate::numbers::{as_divisor, divided, rest};
 use crate::parts::Parts;
 use crate::stock::Held;
-use crate::trail::Trail;
+use crate::trail::{Moment, Trail};
 use rows::Lit;
 use std::alloc::{AllocError, Global};
 
 /// A literal with a coefficient.
-#[derive(Clone, Copy, Debug)]
+#[derive(Clone, Copy)]
 pub(crate) struct Scaled {
     pub(crate) lit: Lit,
     pub(crate) coef: i64,
@@ -86,8 +90,12 @@ impl Reason {
             return Ok(divisor == 1);
         }
         self.parts.begin(self.number)?;
+        let moment = Moment::Before { place: point.place };
         for at in 0..self.terms.len() {
-            let less = self.open_rest(trail, point, at, divisor);
+            let Some(Scaled { lit, coef }) = self.terms.get(at).copied() else {
+                return Ok(false);
+            };
+            let less = open_rest(trail, moment, lit, coef, divisor);
             if less > 0 && !self.weaken(draft, axioms, at, less)? {
                 return Ok(false);
             }
@@ -96,22 +104,17 @@ impl Reason {
             return Ok(false);
         }
         self.number = draft.plan_sum(&self.parts, as_divisor(divisor))?;
-        for term in &mut self.terms {
-            term.coef = divided(term.coef, divisor);
-        }
-        self.degree = divided(self.degree, divisor);
+        self.divide_all(divisor);
         Ok(true)
     }
 
-    /// How much the kth literal counts more than a multiple of the divisor, where it wasn't false before a place.
-    fn open_rest(&self, trail: &Trail, point: &Point, k: usize, divisor: i64) -> i64 {
-        let Some(Scaled { lit, coef }) = self.terms.get(k).copied() else {
-            return 0;
-        };
-        if lit == point.lit || trail.is_false_before(lit, point.place) {
-            return 0;
-        }
-        rest(coef, divisor)
+    /// Divides what each literal counts and the degree, rounding up.
+    fn divide_all(&mut self, divisor: i64)
+        ensures terms { self.new.terms.items ≡ map (divided_term divisor) self.old.terms.items }
+        ensures degree { self.new.degree ≡ pos (divided_up self.old.degree divisor) }
+    {
+        divide_terms(&mut self.terms, divisor);
+        self.degree = divided(self.degree, divisor);
     }
 
     /// Weakens false literals to multiples of the divisor while the divided degree stays: first those that vanish.
@@ -165,5 +168,37 @@ impl Reason {
             };
         }
         Ok(true)
+    }
+}
+
+/// How much is to be taken off a literal that counts so much before a row is divided: what it counts more than a multiple of
+/// the divisor, but nothing where it was false at a moment.
+pub(crate) fn open_rest(trail: &Trail, moment: Moment, lit: Lit, coef: i64, divisor: i64) -> i64
+    ensures { result ≡ pos (taken_off trail.now moment lit coef divisor) }
+{
+    if trail.was_false(lit, moment) {
+        0
+    } else {
+        rest(coef, divisor)
+    }
+}
+
+/// Divides what each literal counts, rounding up.
+fn divide_terms(terms: &mut [Scaled], divisor: i64)
+    ensures { terms.new ≡ map (divided_term divisor) terms.old }
+{
+    for term in terms.iter_mut() {
+        let less = divide_term(term, divisor);
+        *term = less;
+    }
+}
+
+/// A term divided, rounding up.
+fn divide_term(term: &Scaled, divisor: i64) -> Scaled
+    ensures { result ≡ divided_term divisor term.now }
+{
+    Scaled {
+        lit: term.lit,
+        coef: divided(term.coef, divisor),
     }
 }

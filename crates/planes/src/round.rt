@@ -1,9 +1,14 @@
 //! The row at the end of an analysis, made short: what is decided at level 0 goes, and it is divided by the greatest
 //! coefficient that it forces with, so that mostly a clause or a row that counts is left.
+ghost use Rattle.std.specs.Prelude.{◌<◌, IfOk, IfSome};
+ghost use Rattle.planes.specs.Slack.{IsActive};
+ghost use Rattle.planes.specs.Trails.{level_of};
+
 use crate::cut::weaken;
 use crate::desk::Tools;
 use crate::numbers::rest;
-use crate::trail::{Standing, Trail};
+use crate::reason::open_rest;
+use crate::trail::{Moment, Standing, Trail};
 use std::alloc::AllocError;
 
 /// Makes the row short, and plans its step. The answer is the lowest level at whose end it isn't quiet, if there is one
@@ -11,7 +16,10 @@ use std::alloc::AllocError;
 ///
 /// # Errors
 /// Only where memory runs out.
-pub(crate) fn round(trail: &Trail, tools: &mut Tools) -> Result<Option<usize>, AllocError> {
+pub(crate) fn round(trail: &Trail, tools: &mut Tools) -> Result<Option<usize>, AllocError>
+    ensures active { IfOk result (λ found. IfSome found (IsActive tools.new.plane trail.now)) }
+    ensures below { IfOk result (λ found. IfSome found (λ level. level < level_of trail.now)) }
+{
     if !drop_decided(trail, tools)? {
         return Ok(None);
     }
@@ -26,7 +34,7 @@ pub(crate) fn round(trail: &Trail, tools: &mut Tools) -> Result<Option<usize>, A
     tools
         .plane
         .divide(&mut tools.draft, divisor.saturating_mul(common))?;
-    if tools.plane.degree == 1 && tools.plane.greatest_coef() > 1 {
+    if tools.plane.degree == 1 && tools.plane.counts.greatest() > 1 {
         tools.plane.make_clause(&mut tools.draft, &mut tools.lits)?;
     }
     Ok(first_active(trail, tools))
@@ -34,8 +42,8 @@ pub(crate) fn round(trail: &Trail, tools: &mut Tools) -> Result<Option<usize>, A
 
 /// Takes the literals of level 0 out. It says whether it could.
 fn drop_decided(trail: &Trail, tools: &mut Tools) -> Result<bool, AllocError> {
-    for k in 0..tools.plane.len() {
-        let Some((lit, coef)) = tools.plane.term(k) else {
+    for k in 0..tools.plane.counts.len() {
+        let Some((lit, coef)) = tools.plane.counts.term(k) else {
             continue;
         };
         match trail.standing(lit) {
@@ -58,7 +66,10 @@ fn drop_decided(trail: &Trail, tools: &mut Tools) -> Result<bool, AllocError> {
 }
 
 /// The lowest level at whose end the row isn't quiet, if there is one below the present level.
-fn first_active(trail: &Trail, tools: &mut Tools) -> Option<usize> {
+fn first_active(trail: &Trail, tools: &mut Tools) -> Option<usize>
+    ensures active { IfSome result (IsActive tools.new.plane trail.now) }
+    ensures below { IfSome result (λ level. level < level_of trail.now) }
+{
     for level in 0..trail.level() {
         if tools.plane.is_active(trail, level) {
             return Some(level);
@@ -86,19 +97,19 @@ fn weaken_all(
     level: usize,
     divisor: i64,
 ) -> Result<bool, AllocError> {
-    for k in 0..tools.plane.len() {
-        let Some((lit, coef)) = tools.plane.term(k) else {
+    let moment = Moment::EndOf { level };
+    for k in 0..tools.plane.counts.len() {
+        let Some((lit, coef)) = tools.plane.counts.term(k) else {
             continue;
         };
-        let less = rest(coef, divisor);
-        let is_false = trail.side(lit, level) == Some(false);
-        if less > 0 && !is_false && !weaken(tools, lit, less)? {
+        let less = open_rest(trail, moment, lit, coef, divisor);
+        if less > 0 && !weaken(tools, lit, less)? {
             return Ok(false);
         }
     }
     let mut spare = rest(tools.plane.degree.saturating_sub(1), divisor);
-    for k in 0..tools.plane.len() {
-        let Some((lit, coef)) = tools.plane.term(k) else {
+    for k in 0..tools.plane.counts.len() {
+        let Some((lit, coef)) = tools.plane.counts.term(k) else {
             continue;
         };
         let less = rest(coef, divisor);

@@ -13,7 +13,7 @@ const TOLD_EACH: u64 = 64;
 const MANY_LEARNT: usize = 4_000;
 
 /// What comes of a conflict.
-#[derive(Clone, Copy, Debug)]
+#[derive(Clone, Copy)]
 pub(crate) enum Met {
     /// A row is learnt.
     Learnt,

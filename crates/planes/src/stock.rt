@@ -15,14 +15,14 @@ pub(crate) struct Held {
 }
 
 /// How much more than its degree the literals of a row sum to that aren't false, and its greatest coefficient.
-#[derive(Clone, Copy, Debug)]
+#[derive(Clone, Copy)]
 struct Count {
     slack: i64,
     most: i64,
 }
 
 /// Where a literal stands: the place of the row, and the coefficient.
-#[derive(Clone, Copy, Debug)]
+#[derive(Clone, Copy)]
 struct Spot {
     row: u32,
     coef: u32,

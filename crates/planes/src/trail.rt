@@ -1,9 +1,20 @@
 //! The literals that are true at a point of the search, in the order in which they became so.
+ghost use Rattle.std.specs.Prelude.{◌≡◌, ◌+◌, min, length, slice_get, IfNone, OnSome};
+ghost use Rattle.rows.specs.Partials.{opposite_of, value_of};
+ghost use Rattle.planes.specs.Trails.{is_false_at, level_of, side_at, standing_of, valued};
+
 use rows::{Lit, Value};
 use std::alloc::{AllocError, Global};
 
+/// A moment of the search: just before the entry at a place, or the end of a level.
+#[derive(Clone, Copy)]
+pub(crate) enum Moment {
+    Before { place: usize },
+    EndOf { level: usize },
+}
+
 /// How a literal stands on a trail. What has a value has the level and the place at which it got it.
-#[derive(Clone, Copy, Debug)]
+#[derive(Clone, Copy)]
 pub(crate) enum Standing {
     Free,
     True { level: usize },
@@ -12,7 +23,7 @@ pub(crate) enum Standing {
 
 /// A literal that was made true at a level. The row that forced it stands at this place of the stock; a decision has
 /// none.
-#[derive(Clone, Copy, Debug)]
+#[derive(Clone, Copy)]
 pub(crate) struct Entry {
     pub(crate) lit: Lit,
     pub(crate) level: usize,
@@ -48,17 +59,23 @@ impl Trail {
     }
 
     /// The number of entries.
-    pub(crate) fn len(&self) -> usize {
+    pub(crate) fn len(&self) -> usize
+        ensures { result ≡ length self.now.entries.items }
+    {
         self.entries.len()
     }
 
     /// The number of decisions.
-    pub(crate) fn level(&self) -> usize {
+    pub(crate) fn level(&self) -> usize
+        ensures { result ≡ level_of self.now }
+    {
         self.decisions.len()
     }
 
     /// The entry at a place, if there is one.
-    pub(crate) fn entry(&self, place: usize) -> Option<Entry> {
+    pub(crate) fn entry(&self, place: usize) -> Option<Entry>
+        ensures { result ≡ slice_get self.now.entries.items place }
+    {
         self.entries.get(place).copied()
     }
 
@@ -72,7 +89,9 @@ impl Trail {
     }
 
     /// The value of a literal.
-    pub(crate) fn value(&self, lit: Lit) -> Value {
+    pub(crate) fn value(&self, lit: Lit) -> Value
+        ensures { result ≡ value_of (valued self.now) lit }
+    {
         let value = self
             .values
             .get(lit.var() as usize)
@@ -86,7 +105,10 @@ impl Trail {
     }
 
     /// How a literal stands.
-    pub(crate) fn standing(&self, lit: Lit) -> Standing {
+    #[tactic(auto, unfolding(crate::specs::Trails::standing_of))]
+    pub(crate) fn standing(&self, lit: Lit) -> Standing
+        ensures { result ≡ standing_of self.now lit }
+    {
         let value = self.value(lit);
         if let Value::Free = value {
             return Standing::Free;
@@ -102,16 +124,23 @@ impl Trail {
         }
     }
 
-    /// Whether a literal was false before a place.
-    pub(crate) fn is_false_before(&self, lit: Lit, limit: usize) -> bool {
-        match self.standing(lit) {
-            Standing::False { place, .. } => place < limit,
-            Standing::Free | Standing::True { .. } => false,
+    /// Whether a literal was false at a moment.
+    pub(crate) fn was_false(&self, lit: Lit, moment: Moment) -> bool
+        ensures { result ≡ is_false_at moment (standing_of self.now lit) }
+    {
+        let Standing::False { level, place } = self.standing(lit) else {
+            return false;
+        };
+        match moment {
+            Moment::Before { place: limit } => place < limit,
+            Moment::EndOf { level: end } => level <= end,
         }
     }
 
     /// Whether a literal is true or false at the end of a level.
-    pub(crate) fn side(&self, lit: Lit, end: usize) -> Option<bool> {
+    pub(crate) fn side(&self, lit: Lit, end: usize) -> Option<bool>
+        ensures { result ≡ side_at end (standing_of self.now lit) }
+    {
         match self.standing(lit) {
             Standing::True { level } if level <= end => Some(true),
             Standing::False { level, .. } if level <= end => Some(false),
@@ -150,8 +179,13 @@ impl Trail {
         self.push(lit, None)
     }
 
-    /// Takes the last entry off, if it is above a level. It says whether the entry counted.
-    pub(crate) fn pop_above(&mut self, level: usize) -> Option<(Lit, bool)> {
+    /// Takes the last entry off, if it is above a level. It says whether the entry counted. Where none is above the level, its
+    /// end is the present one.
+    pub(crate) fn pop_above(&mut self, level: usize) -> Option<(Lit, bool)>
+        ensures taken { OnSome result (length self.new.entries.items + 1 ≡ length self.old.entries.items) }
+        ensures same_level { OnSome result (level_of self.new ≡ level_of self.old) }
+        ensures at_level { IfNone result (level_of self.new ≡ min level (level_of self.old)) }
+    {
         let end = self.decisions.get(level).copied()?;
         if self.entries.len() <= end {
             self.decisions.truncate(level);
@@ -169,7 +203,9 @@ impl Trail {
 }
 
 /// The value of the negation.
-fn opposite(value: Value) -> Value {
+fn opposite(value: Value) -> Value
+    ensures { result ≡ opposite_of value }
+{
     match value {
         Value::True => Value::False,
         Value::False => Value::True,

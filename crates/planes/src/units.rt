@@ -1,7 +1,7 @@
 //! Clauses of the literals of level 0.
 use crate::draft::Draft;
 use crate::stock::Stock;
-use crate::trail::Trail;
+use crate::trail::{Moment, Trail};
 use rows::Lit;
 use std::alloc::{AllocError, Global};
 
@@ -91,9 +91,10 @@ impl Units {
         let Some(held) = stock.row(row) else {
             return Ok(());
         };
+        let moment = Moment::Before { place: limit };
         for term in &held.terms {
             let number = self.number(term.lit);
-            if number > 0 && trail.is_false_before(term.lit, limit) {
+            if number > 0 && trail.was_false(term.lit, moment) {
                 self.hints.push(number)?;
             }
         }

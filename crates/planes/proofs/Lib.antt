@@ -1,0 +1,3 @@
+pub mod CoefLemmas
+pub mod NumberLemmas
+pub mod SlackLemmas
