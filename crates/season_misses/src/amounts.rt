@@ -1,42 +1,63 @@
 //! Numbers in words, and by how much they are beyond a bound.
-ghost use Rattle.std.specs.Prelude.{◌≡◌, ◌≤◌, ◌<◌, ◌^◌, IfOk, string_bytes};
+ghost use Rattle.std.specs.Prelude.{◌≡◌, ◌≤◌, ◌<◌, ◌^◌, IfOk, Some, string_bytes};
 ghost use Rattle.season_misses.specs.Amounts as amounts;
 
-use crate::numbers::many;
+use crate::numbers::HowMany;
 use league::{Bounds, slot_count};
 use std::alloc::{AllocError, Global};
+use std::fmt;
 
-/// `none`, or the number.
-pub(crate) fn count_text(alloc: Global, count: u64) -> Result<String, AllocError>
-    ensures { IfOk result (λ text. string_bytes text ≡ amounts.count_text count) }
-{
-    if count == 0 {
-        return String::from_str(alloc, "none");
+/// A number that is shown as `none`, or as the number.
+#[derive(Drop)]
+pub(crate) struct Count(pub(crate) u64);
+
+impl fmt::Display for Count {
+    ghost output = { λ x. Some (amounts.count_text x.0) };
+
+    fn fmt<W: fmt::Write>(&self, f: &mut fmt::Formatter<W>) -> fmt::Result {
+        let count = self.0;
+        if count == 0 {
+            return write!(f, "none");
+        }
+        write!(f, "{count}")
     }
-    format!(in alloc; "{count}")
 }
 
-/// `there is none`, `there is 1`, `there are 2`.
-pub(crate) fn there_text(alloc: Global, count: u64) -> Result<String, AllocError>
-    ensures { IfOk result (λ text. string_bytes text ≡ amounts.there_text count) }
-{
-    if count < 2 {
-        let number = count_text(alloc, count)?;
-        return format!(in alloc; "there is {number}");
+/// A number that is shown as `there is none`, `there is 1`, `there are 2`.
+#[derive(Drop)]
+pub(crate) struct There(pub(crate) u64);
+
+impl fmt::Display for There {
+    ghost output = { λ x. Some (amounts.there_text x.0) };
+
+    fn fmt<W: fmt::Write>(&self, f: &mut fmt::Formatter<W>) -> fmt::Result {
+        let count = self.0;
+        if count < 2 {
+            let number = Count(count);
+            return write!(f, "there is {number}");
+        }
+        write!(f, "there are {count}")
     }
-    format!(in alloc; "there are {count}")
 }
 
-/// By how much a number is outside of two bounds, and on which side.
-pub(crate) fn beyond_text(alloc: Global, bounds: Bounds, count: u64) -> Result<String, AllocError>
-    ensures { IfOk result (λ text. string_bytes text ≡ amounts.beyond_text bounds.min bounds.max count) }
-{
-    let few = u64::from(bounds.min).saturating_sub(count);
-    let much = count.saturating_sub(u64::from(bounds.max));
-    if much <= few {
-        return format!(in alloc; "{few} too few");
+/// A number that is outside of two bounds, shown as by how much, and on which side.
+#[derive(Drop)]
+pub(crate) struct Beyond {
+    pub(crate) bounds: Bounds,
+    pub(crate) count: u64,
+}
+
+impl fmt::Display for Beyond {
+    ghost output = { λ x. Some (amounts.beyond_text x.bounds.min x.bounds.max x.count) };
+
+    fn fmt<W: fmt::Write>(&self, f: &mut fmt::Formatter<W>) -> fmt::Result {
+        let few = u64::from(self.bounds.min).saturating_sub(self.count);
+        let much = self.count.saturating_sub(u64::from(self.bounds.max));
+        if much <= few {
+            return write!(f, "{few} too few");
+        }
+        write!(f, "{much} too many")
     }
-    format!(in alloc; "{much} too many")
 }
 
 /// So many slots in a row, from one on, in a league of n teams.
@@ -64,14 +85,26 @@ pub(crate) fn stretch_text(
     format!(in alloc; "slots {first} to {last}")
 }
 
-/// How many windows of so many slots, where it is one and some more.
-pub(crate) fn windows_text(alloc: Global, more: usize, intp: u32) -> Result<String, AllocError>
-    ensures { IfOk result (λ text. string_bytes text ≡ amounts.windows_text more intp) }
-{
-    if more == 0 {
-        return Ok(String::new(alloc));
+/// Windows of so many slots, one and some more, shown as how many they are where they are several.
+#[derive(Drop)]
+pub(crate) struct Runs {
+    pub(crate) more: usize,
+    pub(crate) intp: u32,
+}
+
+impl fmt::Display for Runs {
+    ghost output = { λ x. Some (amounts.windows_text x.more x.intp) };
+
+    fn fmt<W: fmt::Write>(&self, f: &mut fmt::Formatter<W>) -> fmt::Result {
+        if self.more == 0 {
+            return Ok(());
+        }
+        let windows = self.more as u128 + 1;
+        let count = u64::from(self.intp);
+        let slots = HowMany {
+            count,
+            noun: "slot",
+        };
+        write!(f, " in each of {windows} runs of {slots}")
     }
-    let windows = more as u128 + 1;
-    let slots = many(alloc, u64::from(intp), "slot")?;
-    format!(in alloc; " in each of {windows} runs of {slots}")
 }

@@ -3,11 +3,11 @@ ghost use Rattle.std.specs.Prelude.{◌≡◌, map, decimal, IfOk, string_bytes}
 ghost use Rattle.league.specs.Separation as separation;
 ghost use Rattle.season_misses.specs.Lines as lines;
 
-use crate::amounts::count_text;
+use crate::amounts::Count;
 use crate::game_words::games_text;
 use crate::label::Label;
 use crate::lists::listed;
-use crate::numbers::many;
+use crate::numbers::HowMany;
 use league::Game;
 use reasons::Cause;
 use std::alloc::{AllocError, Global};
@@ -62,8 +62,11 @@ fn apart_front(
 {
     let who = more.who;
     let other = fewer.who;
-    let games = many(alloc, more.games.len() as u64, "home game")?;
-    let count = count_text(alloc, fewer.games.len() as u64)?;
+    let games = HowMany {
+        count: more.games.len() as u64,
+        noun: "home game",
+    };
+    let count = Count(fewer.games.len() as u64);
     format!(in alloc; "after slot {slot} {who} has {games} and {other} {count}")
 }
 
@@ -183,7 +186,10 @@ fn gap_back(
 {
     let between = slots_between(earlier, later);
     let few = min.saturating_sub(between);
-    let slots = many(alloc, u64::from(between), "slot")?;
+    let slots = HowMany {
+        count: u64::from(between),
+        noun: "slot",
+    };
     let list = games_text(alloc, names, &[earlier, later])?;
     format!(in alloc; "{slots} between, {few} too few: {list}")
 }

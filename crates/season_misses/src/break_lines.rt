@@ -3,7 +3,7 @@ ghost use Rattle.std.specs.Prelude.{◌≡◌, ◌++◌, IfOk, OnOk, map, string
 ghost use Rattle.std.specs.List.{flat_map};
 ghost use Rattle.season_misses.specs.Lines as lines;
 
-use crate::amounts::there_text;
+use crate::amounts::There;
 use crate::game_words::{games_text, name_at};
 use crate::label::Label;
 use league::Side;
@@ -49,9 +49,9 @@ fn push_next(
 ) -> Result<(), AllocError>
     ensures { OnOk result (string_bytes text.new ≡ string_bytes text.old ++ lines.next_break names.now found.now) }
 {
-    let next = break_text(alloc, names, found)?;
-    write!(text, "; {next}")?;
-    Ok(())
+    let venue = venue_text(found.side);
+    let games = games_text(alloc, names, found.games.games())?;
+    write!(text, "; {venue} {games}")
 }
 
 /// Adds breaks, each after another.
@@ -110,35 +110,26 @@ pub(crate) fn all_breaks_line(
 {
     let count = breaks.len() as u64;
     let much = count.saturating_sub(u64::from(intp));
-    let there = there_text(alloc, count)?;
+    let there = There(count);
     format!(in alloc; "{there}, {much} too many")
 }
 
-/// A break by its later slot.
-fn break_slot(alloc: Global, found: &Break) -> Result<String, AllocError>
-    ensures { IfOk result (λ text. string_bytes text ≡ lines.break_slot found.now) }
+/// Adds a break by its later slot, after another.
+fn push_slot(text: &mut String, found: &Break) -> Result<(), AllocError>
+    ensures { OnOk result (string_bytes text.new ≡ string_bytes text.old ++ lines.next_break_slot found.now) }
 {
     let venue = venue_text(found.side);
     let slot = found.slot.0;
-    format!(in alloc; "{venue} ({slot})")
-}
-
-/// Adds a break by its later slot, after another.
-fn push_slot(alloc: Global, text: &mut String, found: &Break) -> Result<(), AllocError>
-    ensures { OnOk result (string_bytes text.new ≡ string_bytes text.old ++ lines.next_break_slot found.now) }
-{
-    let next = break_slot(alloc, found)?;
-    write!(text, ", {next}")?;
-    Ok(())
+    write!(text, ", {venue} ({slot})")
 }
 
 /// Adds breaks by their later slots, each after another, of a team alone.
-fn push_slots(alloc: Global, text: &mut String, others: &[&Break]) -> Result<(), AllocError>
+fn push_slots(text: &mut String, others: &[&Break]) -> Result<(), AllocError>
     ensures { OnOk result (string_bytes text.new
         ≡ string_bytes text.old ++ flat_map lines.next_break_slot (map (λ b. b.now) others.now)) }
 {
     for found in others {
-        push_slot(alloc, text, found)?;
+        push_slot(text, found)?;
     }
     Ok(())
 }
@@ -156,9 +147,10 @@ fn push_team(
     match breaks {
         [] => Ok(()),
         [first, others @ ..] => {
-            let slot = break_slot(alloc, first)?;
-            let mut text = format!(in alloc; "{who} {slot}")?;
-            push_slots(alloc, &mut text, others)?;
+            let venue = venue_text(first.side);
+            let slot = first.slot.0;
+            let mut text = format!(in alloc; "{who} {venue} ({slot})")?;
+            push_slots(&mut text, others)?;
             found.push(Label::new(text))?;
             Ok(())
         }

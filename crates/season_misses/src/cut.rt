@@ -27,19 +27,18 @@ pub(crate) fn push_more(
     ensures { OnOk result (string_bytes text.new
         ≡ string_bytes text.old ++ misses.more_text front.now back.now most count) }
 {
-    if count > most {
-        let more = count - most;
-        write!(text, "{front}and {more}{back}\n")?;
+    if count <= most {
+        return Ok(());
     }
-    Ok(())
+    let more = count - most;
+    write!(text, "{front}and {more}{back}\n")
 }
 
 /// Adds a line of a list.
 pub(crate) fn push_line(text: &mut String, front: &str, line: &str) -> Result<(), AllocError>
     ensures { OnOk result (string_bytes text.new ≡ string_bytes text.old ++ misses.list_line front.now line.now) }
 {
-    write!(text, "{front}{line}\n")?;
-    Ok(())
+    write!(text, "{front}{line}\n")
 }
 
 /// Adds the lines of a list.

@@ -1,5 +1,5 @@
 //! The sentence of each class.
-ghost use Rattle.std.specs.Prelude.{◌≡◌, ◌<◌, ◌≤◌, [], ◌∷◌, length, map, string_bytes, IfOk, IsTrue};
+ghost use Rattle.std.specs.Prelude.{◌≡◌, ◌<◌, ◌≤◌, [], ◌∷◌, length, map, string_bytes, IfOk, IsTrue, Some};
 ghost use Rattle.std.specs.List.{All};
 ghost use Rattle.league.specs.Instance.{are_meetings, class_fits};
 ghost use Rattle.league.specs.declared.class.Class.TheVariants.{Ga1};
@@ -8,11 +8,12 @@ ghost use Rattle.season_misses.specs.Groups.{is_of_breaks, is_of_crowds, is_of_g
 
 use crate::label::Label;
 use crate::lists::listed;
-use crate::numbers::{bare_bounds, bounds, many};
+use crate::numbers::{Bare, Bounded, HowMany};
 use crate::slots::{all_slots, each_slot, windows};
 use crate::teams::{against_teams, all_teams, each_team, name_of, two_teams};
 use league::{Bounds, Class, Constraint, PairSet, Side, SlotSet, Span};
 use std::alloc::{AllocError, Global};
+use std::fmt;
 
 /// A game on a side.
 fn game_noun(side: Side) -> &'static str
@@ -34,6 +35,16 @@ fn break_noun(side: Side) -> &'static str
         Side::A => "away break",
         Side::Both => "break",
     }
+}
+
+/// From low to high of something.
+fn demanded(min: u32, max: u32, noun: &str) -> Bounded<'_>
+    ensures low { result.bounds.min ≡ min }
+    ensures high { result.bounds.max ≡ max }
+    ensures noun { result.noun.now ≡ noun.now }
+{
+    let bounds = Bounds { min, max };
+    Bounded { bounds, noun }
 }
 
 /// The slots of a CA4.
@@ -94,7 +105,7 @@ fn one_meeting(
         }
         return format!(in alloc; "the game {game}: in {season}");
     }
-    let bare = bare_bounds(alloc, bounds.min, bounds.max)?;
+    let bare = Bare(bounds);
     format!(in alloc; "of the games {game}: {bare} in {season}")
 }
 
@@ -112,12 +123,12 @@ fn meetings_text(
 {
     match meetings {
         [] => {
-            let bare = bare_bounds(alloc, bounds.min, bounds.max)?;
+            let bare = Bare(bounds);
             format!(in alloc; "of no game: {bare} in {season}")
         }
         [meeting] => one_meeting(alloc, names, bounds, *meeting, season),
         _ => {
-            let bare = bare_bounds(alloc, bounds.min, bounds.max)?;
+            let bare = Bare(bounds);
             let labels = meeting_labels(alloc, names, meetings)?;
             let games = listed(alloc, "and", &labels)?;
             format!(in alloc; "of the games {games}: {bare} in {season}")
@@ -159,7 +170,7 @@ fn games_words(alloc: Global, names: &[Label], class: &Class) -> Result<String, 
             slots,
         } => {
             let who = each_team(alloc, names, teams)?;
-            let what = bounds(alloc, *min, *max, game_noun(*side))?;
+            let what = demanded(*min, *max, game_noun(*side));
             let season = all_slots(alloc, n, slots)?;
             format!(in alloc; "{who}: {what} in {season}")
         }
@@ -172,7 +183,7 @@ fn games_words(alloc: Global, names: &[Label], class: &Class) -> Result<String, 
             slots,
         } => {
             let who = each_team(alloc, names, teams1)?;
-            let what = bounds(alloc, *min, *max, game_noun(*side))?;
+            let what = demanded(*min, *max, game_noun(*side));
             let against = against_teams(alloc, names, teams2)?;
             let season = all_slots(alloc, n, slots)?;
             format!(in alloc; "{who}: {what}{against} in {season}")
@@ -199,7 +210,7 @@ fn crowds_words(alloc: Global, names: &[Label], class: &Class) -> Result<String,
             side,
         } => {
             let who = each_team(alloc, names, teams1)?;
-            let what = bounds(alloc, *min, *max, game_noun(*side))?;
+            let what = demanded(*min, *max, game_noun(*side));
             let against = against_teams(alloc, names, teams2)?;
             let row = windows(alloc, n, *intp)?;
             format!(in alloc; "{who}: {what}{against}{row}")
@@ -214,7 +225,7 @@ fn crowds_words(alloc: Global, names: &[Label], class: &Class) -> Result<String,
             slots,
         } => {
             let who = all_teams(alloc, names, teams1)?;
-            let what = bounds(alloc, *min, *max, game_noun(*side))?;
+            let what = demanded(*min, *max, game_noun(*side));
             let against = against_teams(alloc, names, teams2)?;
             let season = span_slots(alloc, n, *span, slots)?;
             format!(in alloc; "{who}: {what}{against} in {season}")
@@ -239,13 +250,13 @@ fn breaks_words(alloc: Global, names: &[Label], class: &Class) -> Result<String,
             slots,
         } => {
             let who = each_team(alloc, names, teams)?;
-            let what = bounds(alloc, 0, *intp, break_noun(*side))?;
+            let what = demanded(0, *intp, break_noun(*side));
             let season = all_slots(alloc, n, slots)?;
             format!(in alloc; "{who}: {what} in {season}")
         }
         Class::Br2 { teams, intp, slots } => {
             let who = all_teams(alloc, names, teams)?;
-            let what = bounds(alloc, 0, *intp, "break")?;
+            let what = demanded(0, *intp, "break");
             let season = all_slots(alloc, n, slots)?;
             format!(in alloc; "{who}: {what} in {season}")
         }
@@ -253,26 +264,42 @@ fn breaks_words(alloc: Global, names: &[Label], class: &Class) -> Result<String,
     }
 }
 
-/// How far apart two teams may be.
-fn apart(alloc: Global, intp: u32) -> Result<String, AllocError>
-    ensures { IfOk result (λ text. string_bytes text ≡ demands.apart_text intp) }
-{
-    if intp == 0 {
-        return String::from_str(alloc, "no home game apart after ");
+/// A number that is shown as how far apart two teams may be.
+#[derive(Drop)]
+struct Apart(u32);
+
+impl fmt::Display for Apart {
+    ghost output = { λ x. Some (demands.apart_text x.0) };
+
+    fn fmt<W: fmt::Write>(&self, f: &mut fmt::Formatter<W>) -> fmt::Result {
+        if self.0 == 0 {
+            return write!(f, "no home game apart after ");
+        }
+        let games = HowMany {
+            count: u64::from(self.0),
+            noun: "home game",
+        };
+        write!(f, "at most {games} apart after ")
     }
-    let games = many(alloc, u64::from(intp), "home game")?;
-    format!(in alloc; "at most {games} apart after ")
 }
 
-/// How many slots between two games.
-fn between(alloc: Global, min: u32) -> Result<String, AllocError>
-    ensures { IfOk result (λ text. string_bytes text ≡ demands.between_text min) }
-{
-    if min == 0 {
-        return String::from_str(alloc, "any number of slots between their games");
+/// A number that is shown as how many slots are to be between two games.
+#[derive(Drop)]
+struct Between(u32);
+
+impl fmt::Display for Between {
+    ghost output = { λ x. Some (demands.between_text x.0) };
+
+    fn fmt<W: fmt::Write>(&self, f: &mut fmt::Formatter<W>) -> fmt::Result {
+        if self.0 == 0 {
+            return write!(f, "any number of slots between their games");
+        }
+        let slots = HowMany {
+            count: u64::from(self.0),
+            noun: "slot",
+        };
+        write!(f, "at least {slots} between their games")
     }
-    let slots = many(alloc, u64::from(min), "slot")?;
-    format!(in alloc; "at least {slots} between their games")
 }
 
 /// The sentence of an FA2 or an SE1.
@@ -285,13 +312,13 @@ fn pairs_words(alloc: Global, names: &[Label], class: &Class) -> Result<String, 
     match class {
         Class::Fa2 { teams, intp, slots } => {
             let who = two_teams(alloc, names, teams)?;
-            let what = apart(alloc, *intp)?;
+            let what = Apart(*intp);
             let season = each_slot(alloc, names.len() as u16, slots)?;
             format!(in alloc; "{who}: {what}{season}")
         }
         Class::Se1 { teams, min } => {
             let who = two_teams(alloc, names, teams)?;
-            let what = between(alloc, *min)?;
+            let what = Between(*min);
             format!(in alloc; "{who}: {what}")
         }
         _ => unreachable!(),

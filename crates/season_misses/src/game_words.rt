@@ -29,31 +29,22 @@ fn game_text(alloc: Global, names: &[Label], game: Game) -> Result<String, Alloc
 }
 
 /// Adds a game after another.
-fn push_next(
-    alloc: Global,
-    text: &mut String,
-    names: &[Label],
-    game: Game,
-) -> Result<(), AllocError>
+fn push_next(text: &mut String, names: &[Label], game: Game) -> Result<(), AllocError>
     ensures { OnOk result (string_bytes text.new ≡ string_bytes text.old ++ games.next_game names.now game) }
 {
-    let next = game_text(alloc, names, game)?;
-    write!(text, ", {next}")?;
-    Ok(())
+    let home = name_at(names, game.home.0);
+    let away = name_at(names, game.away.0);
+    let slot = game.slot.0;
+    write!(text, ", {home} - {away} ({slot})")
 }
 
 /// Adds games, each after another.
-fn push_others(
-    alloc: Global,
-    text: &mut String,
-    names: &[Label],
-    others: &[Game],
-) -> Result<(), AllocError>
+fn push_others(text: &mut String, names: &[Label], others: &[Game]) -> Result<(), AllocError>
     ensures { OnOk result (string_bytes text.new
         ≡ string_bytes text.old ++ flat_map (games.next_game names.now) others.now) }
 {
     for game in others {
-        push_next(alloc, text, names, *game)?;
+        push_next(text, names, *game)?;
     }
     Ok(())
 }
@@ -70,7 +61,7 @@ pub(crate) fn games_text(
         [] => Ok(String::new(alloc)),
         [first, others @ ..] => {
             let mut text = game_text(alloc, names, *first)?;
-            push_others(alloc, &mut text, names, others)?;
+            push_others(&mut text, names, others)?;
             Ok(text)
         }
     }

@@ -5,7 +5,7 @@ ghost use Rattle.reasons.specs.Groups.{counts_games_of_a_team, counts_games_of_m
 ghost use Rattle.season_misses.specs.Lines as lines;
 ghost use Rattle.season_misses.specs.SeenRow.{row_of};
 
-use crate::amounts::{beyond_text, count_text, stretch_text, there_text, windows_text};
+use crate::amounts::{Beyond, Count, Runs, There, stretch_text};
 use crate::apart::{gap_text, lead_text};
 use crate::break_lines::{all_breaks_line, breaks_line, breaks_told};
 use crate::game_words::{games_after, name_at};
@@ -57,8 +57,9 @@ fn has_line(
     ensures { IfOk result (λ text. string_bytes text
         ≡ lines.has_line names.now who.now bounds.min bounds.max games.now) }
 {
-    let count = count_text(alloc, games.len() as u64)?;
-    let beyond = beyond_text(alloc, bounds, games.len() as u64)?;
+    let count = games.len() as u64;
+    let beyond = Beyond { bounds, count };
+    let count = Count(count);
     let after = games_after(alloc, names, games)?;
     format!(in alloc; "{who} has {count}, {beyond}{after}")
 }
@@ -85,11 +86,13 @@ fn window_line(
 {
     let Windows { n, intp, row } = windows;
     let games = games_told(&row.reason.cause);
-    let count = count_text(alloc, games.len() as u64)?;
-    let slots = row.more as u128 + u128::from(intp);
+    let count = games.len() as u64;
+    let beyond = Beyond { bounds, count };
+    let count = Count(count);
+    let more = row.more;
+    let runs = Runs { more, intp };
+    let slots = more as u128 + u128::from(intp);
     let stretch = stretch_text(alloc, n, slot_told(&row.reason.cause), slots)?;
-    let beyond = beyond_text(alloc, bounds, games.len() as u64)?;
-    let runs = windows_text(alloc, row.more, intp)?;
     let after = games_after(alloc, names, games)?;
     format!(in alloc; "{who} has {count} in {stretch}, {beyond}{runs}{after}")
 }
@@ -118,8 +121,9 @@ fn there_line(
     ensures { IfOk result (λ text. string_bytes text
         ≡ lines.there_line names.now bounds.min bounds.max place.now games.now) }
 {
-    let there = there_text(alloc, games.len() as u64)?;
-    let beyond = beyond_text(alloc, bounds, games.len() as u64)?;
+    let count = games.len() as u64;
+    let beyond = Beyond { bounds, count };
+    let there = There(count);
     let after = games_after(alloc, names, games)?;
     format!(in alloc; "{there}{place}, {beyond}{after}")
 }

@@ -1,8 +1,30 @@
 //! How many.
-ghost use Rattle.std.specs.Prelude.{◌≡◌, string_bytes, IfOk};
+ghost use Rattle.std.specs.Prelude.{◌≡◌, string_bytes, IfOk, Some};
 ghost use Rattle.season_misses.specs.Phrases as phrases;
 
+use league::Bounds;
 use std::alloc::{AllocError, Global};
+use std::fmt;
+
+/// So many of something, shown as `no game`, `1 game`, `2 games`.
+#[derive(Drop)]
+pub(crate) struct HowMany<'a> {
+    pub(crate) count: u64,
+    pub(crate) noun: &'a str,
+}
+
+impl fmt::Display for HowMany<'_> {
+    ghost output = { λ x. Some (phrases.many x.count x.noun.now) };
+
+    fn fmt<W: fmt::Write>(&self, f: &mut fmt::Formatter<W>) -> fmt::Result {
+        let noun = self.noun;
+        match self.count {
+            0 => write!(f, "no {noun}"),
+            1 => write!(f, "1 {noun}"),
+            count => write!(f, "{count} {noun}s"),
+        }
+    }
+}
 
 /// `no game`, `1 game`, `2 games`.
 ///
@@ -11,50 +33,65 @@ use std::alloc::{AllocError, Global};
 pub fn many(alloc: Global, count: u64, noun: &str) -> Result<String, AllocError>
     ensures { IfOk result (λ text. string_bytes text ≡ phrases.many count noun.now) }
 {
-    if count == 0 {
-        return format!(in alloc; "no {noun}");
-    }
-    if count == 1 {
-        return format!(in alloc; "1 {noun}");
-    }
-    format!(in alloc; "{count} {noun}s")
+    let many = HowMany { count, noun };
+    format!(in alloc; "{many}")
 }
 
 /// From low to high of something.
-pub(crate) fn bounds(alloc: Global, low: u32, high: u32, noun: &str) -> Result<String, AllocError>
-    ensures { IfOk result (λ text. string_bytes text ≡ phrases.bounds_text low high noun.now) }
-{
-    let most = many(alloc, u64::from(high), noun)?;
-    if high < low {
-        return format!(in alloc; "at least {low} and at most {most}, which can't both be,");
+#[derive(Drop)]
+pub(crate) struct Bounded<'a> {
+    pub(crate) bounds: Bounds,
+    pub(crate) noun: &'a str,
+}
+
+impl fmt::Display for Bounded<'_> {
+    ghost output = { λ x. Some (phrases.bounds_text x.bounds.min x.bounds.max x.noun.now) };
+
+    fn fmt<W: fmt::Write>(&self, f: &mut fmt::Formatter<W>) -> fmt::Result {
+        let low = self.bounds.min;
+        let high = self.bounds.max;
+        let most = HowMany {
+            count: u64::from(high),
+            noun: self.noun,
+        };
+        if high < low {
+            return write!(f, "at least {low} and at most {most}, which can't both be,");
+        }
+        if high == 0 {
+            return write!(f, "{most}");
+        }
+        if low == high {
+            return write!(f, "exactly {most}");
+        }
+        if low == 0 {
+            return write!(f, "at most {most}");
+        }
+        write!(f, "from {low} to {most}")
     }
-    if high == 0 {
-        return many(alloc, 0, noun);
-    }
-    if low == high {
-        return format!(in alloc; "exactly {most}");
-    }
-    if low == 0 {
-        return format!(in alloc; "at most {most}");
-    }
-    format!(in alloc; "from {low} to {most}")
 }
 
 /// From low to high of what was told before.
-pub(crate) fn bare_bounds(alloc: Global, low: u32, high: u32) -> Result<String, AllocError>
-    ensures { IfOk result (λ text. string_bytes text ≡ phrases.bare_bounds_text low high) }
-{
-    if high < low {
-        return format!(in alloc; "at least {low} and at most {high}, which can't both be,");
+#[derive(Drop)]
+pub(crate) struct Bare(pub(crate) Bounds);
+
+impl fmt::Display for Bare {
+    ghost output = { λ x. Some (phrases.bare_bounds_text x.0.min x.0.max) };
+
+    fn fmt<W: fmt::Write>(&self, f: &mut fmt::Formatter<W>) -> fmt::Result {
+        let low = self.0.min;
+        let high = self.0.max;
+        if high < low {
+            return write!(f, "at least {low} and at most {high}, which can't both be,");
+        }
+        if high == 0 {
+            return write!(f, "none");
+        }
+        if low == high {
+            return write!(f, "exactly {high}");
+        }
+        if low == 0 {
+            return write!(f, "at most {high}");
+        }
+        write!(f, "from {low} to {high}")
     }
-    if high == 0 {
-        return String::from_str(alloc, "none");
-    }
-    if low == high {
-        return format!(in alloc; "exactly {high}");
-    }
-    if low == 0 {
-        return format!(in alloc; "at most {high}");
-    }
-    format!(in alloc; "from {low} to {high}")
 }

@@ -1,5 +1,5 @@
 //! Which slots.
-ghost use Rattle.std.specs.Prelude.{◌≡◌, ◌≤◌, ◌++◌, decimal, string_bytes, IfOk, OnOk};
+ghost use Rattle.std.specs.Prelude.{◌≡◌, ◌≤◌, ◌++◌, [], ◌∷◌, decimal, string_bytes, IfOk, OnOk};
 ghost use Rattle.std.specs.List.{flat_map};
 ghost use Rattle.season_misses.specs.Phrases as phrases;
 
@@ -38,29 +38,29 @@ fn runs_of(alloc: Global, slots: &[u16]) -> Result<Vec<Run>, AllocError>
     Ok(runs)
 }
 
-/// A number as a text.
-fn number(alloc: Global, number: u16) -> Result<Label, AllocError>
-    ensures { IfOk result (λ label. label ≡ decimal number) }
+/// Adds a number.
+fn push_number(items: &mut Vec<Label>, number: u16) -> Result<(), AllocError>
+    ensures { OnOk result (items.new.items ≡ items.old.items ++ decimal number ∷ []) }
 {
-    Ok(Label::new(format!(in alloc; "{number}")?))
+    let text = format!(in *items.allocator(); "{number}")?;
+    items.push(Label::new(text))?;
+    Ok(())
 }
 
 /// Adds a run in words: three slots or more are one item.
 fn push_items(items: &mut Vec<Label>, run: Run) -> Result<(), AllocError>
     ensures { OnOk result (items.new.items ≡ items.old.items ++ phrases.run_items run) }
 {
-    let alloc = *items.allocator();
     let (first, last) = run;
     if first == last {
-        items.push(number(alloc, first)?)?;
-        return Ok(());
+        return push_number(items, first);
     }
     if u32::from(first) + 1 == u32::from(last) {
-        items.push(number(alloc, first)?)?;
-        items.push(number(alloc, last)?)?;
-        return Ok(());
+        push_number(items, first)?;
+        return push_number(items, last);
     }
-    items.push(Label::new(format!(in alloc; "{first} to {last}")?))?;
+    let text = format!(in *items.allocator(); "{first} to {last}")?;
+    items.push(Label::new(text))?;
     Ok(())
 }
 

@@ -116,6 +116,28 @@ pub(crate) struct Named<'a> {
     pub(crate) games: &'a [Game],
 }
 
+/// Adds the line on what is to be there, unless one such game was found.
+fn push_found(
+    lines: &mut Vec<Label>,
+    lack: Lack,
+    names: &[Label],
+    i: u16,
+    j: u16,
+    found: &[Game],
+) -> Result<(), AllocError>
+    ensures { OnOk result (lines.new.items
+        ≡ lines.old.items ++ lacks.line_unless_one lack names.now i j found.now) }
+{
+    if found.len() == 1 {
+        return Ok(());
+    }
+    let alloc = *lines.allocator();
+    let place = place_text(alloc, lack, names, i, j)?;
+    let there = found_text(alloc, lack, names, found)?;
+    lines.push(Label::new(format!(in alloc; "{place}: {there}")?))?;
+    Ok(())
+}
+
 /// Adds the line on what is to be there, unless it is.
 fn push_lack(
     lines: &mut Vec<Label>,
@@ -127,16 +149,11 @@ fn push_lack(
     ensures { OnOk result (lines.new.items ≡ lines.old.items
         ++ lacks.lack_at lack season.entry.n season.entry.names.now season.entry.games.now i j) }
 {
-    if is_wanted(lack, i, j) {
-        let alloc = *lines.allocator();
-        let found = games_of(alloc, lack, season.n, season.games, i, j)?;
-        if found.len() != 1 {
-            let place = place_text(alloc, lack, season.names, i, j)?;
-            let there = found_text(alloc, lack, season.names, &found)?;
-            lines.push(Label::new(format!(in alloc; "{place}: {there}")?))?;
-        }
+    if !is_wanted(lack, i, j) {
+        return Ok(());
     }
-    Ok(())
+    let found = games_of(*lines.allocator(), lack, season.n, season.games, i, j)?;
+    push_found(lines, lack, season.names, i, j, &found)
 }
 
 /// Adds the lines of a team, with other teams or with slots.

@@ -16,7 +16,7 @@ use crate::gravest::gravest_first;
 use crate::label::Label;
 use crate::lines::line_of;
 use crate::miss::{Miss, misses_of};
-use crate::numbers::many;
+use crate::numbers::HowMany;
 use crate::row::{Row, rows_of};
 use deviation::Vectors;
 use league::{Class, Constraint, Game, League, TeamSet};
@@ -155,23 +155,23 @@ pub struct Told<'a> {
     pub vectors: &'a Vectors,
 }
 
-/// What a constraint that is missed demands, by how much it is missed, and what that costs.
-fn head_text(
-    alloc: Global,
+/// Adds what a constraint that is missed demands, by how much it is missed, and what that costs.
+fn push_head(
+    text: &mut String,
     names: &[Label],
     constraint: &Constraint,
     miss: Miss,
-) -> Result<String, AllocError>
+) -> Result<(), AllocError>
     requires few { length names.now ≤ 40 }
     requires fits { IsTrue (class_fits (length names.now) constraint.now.class) }
     requires place { miss.place ≤ 20000 }
-    ensures { IfOk result (λ text. string_bytes text
-        ≡ misses.head_text (length names.now) names.now constraint.now miss) }
+    ensures { OnOk result (string_bytes text.new ≡ string_bytes text.old
+        ++ misses.head_text (length names.now) names.now constraint.now miss) }
 {
-    let words = constraint_words(alloc, names, miss.place + 1, constraint)?;
+    let words = constraint_words(*text.allocator(), names, miss.place + 1, constraint)?;
     let deviation = miss.deviation;
     let cost = miss.cost;
-    format!(in alloc; "{words}; missed by {deviation}, costs {cost}\n")
+    write!(text, "{words}; missed by {deviation}, costs {cost}\n")
 }
 
 /// Adds a constraint that is missed, with its lines.
@@ -191,17 +191,14 @@ fn push_miss(
         ++ misses.miss_text season.now.league.now.n season.now.names.now season.now.most season.now.games.now
         constraint.now miss) }
 {
-    let alloc = *text.allocator();
     let n = season.league.n();
-    let head = head_text(alloc, season.names, constraint, miss)?;
+    push_head(text, season.names, constraint, miss)?;
     let played = Season {
         cells: season.cells,
         games: season.games,
         own: season.own,
     };
-    let found = reasons(alloc, &constraint.class, &played, entries)?;
-    let line = head.as_str();
-    text.push_str(line)?;
+    let found = reasons(*text.allocator(), &constraint.class, &played, entries)?;
     let list = found.as_slice();
     push_reasons(text, n, season.names, season.most, &constraint.class, list)
 }
@@ -241,9 +238,11 @@ fn push_counts(text: &mut String, constraints: usize, order: &[Miss]) -> Result<
 {
     let hard = order.iter().filter(|miss| miss.hard).count();
     let soft = order.len().saturating_sub(hard);
-    let of = many(*text.allocator(), constraints as u64, "constraint")?;
-    write!(text, "missed: {hard} hard and {soft} soft of {of}\n")?;
-    Ok(())
+    let of = HowMany {
+        count: constraints as u64,
+        noun: "constraint",
+    };
+    write!(text, "missed: {hard} hard and {soft} soft of {of}\n")
 }
 
 /// What a season misses: how many constraints, and `most` of them, the gravest first, each with at most `most` lines. A

@@ -12,7 +12,7 @@ returns c =
     subst (λ (t : List ℕ). IfOk c.format.result (λ text. string_bytes text ≡ t))
     (three_parts
     (λ (slots few list : List ℕ). slots ++ (codes " between, " ++ (few ++ (codes " too few: " ++ list))))
-    (string_bytes c.in_ok-slots.slots) (decimal c.saturating_sub-few.result) (string_bytes c.in_ok-list.list)
+    (many c.from.result (codes "slot")) (decimal c.saturating_sub-few.result) (string_bytes c.in_ok-list.list)
     (many between (codes "slot")) (decimal (c.args.min - between)) (games_text c.args.names.now (c.args.earlier ∷ c.args.later ∷ []))
-    (c.in_ok-slots.ensures ∙ ap (λ (k : ℕ). many k (codes "slot")) (c.from.ensures ∙ c.slots_between-between.ensures)) (ap decimal few) c.in_ok-list.ensures)
+    (ap (λ (k : ℕ). many k (codes "slot")) (c.from.ensures ∙ c.slots_between-between.ensures)) (ap decimal few) c.in_ok-list.ensures)
     c.format.ensures.ok

@@ -16,3 +16,12 @@ returns-in_err-found-clause-order c = are-told (misses_of c.args.season.now.leag
 
 pub returns-in_err-order-clause-order : goal.returns-in_err-order-clause-order
 returns-in_err-order-clause-order c = are-told (misses_of c.args.season.now.league.now c.args.season.now.games.now)
+
+pub returns-in_err-push_counts-clause-order : goal.returns-in_err-push_counts-clause-order
+returns-in_err-push_counts-clause-order c = are-told (misses_of c.args.season.now.league.now c.args.season.now.games.now)
+
+pub returns-in_err-push_each_told-clause-order : goal.returns-in_err-push_each_told-clause-order
+returns-in_err-push_each_told-clause-order c = are-told (misses_of c.args.season.now.league.now c.args.season.now.games.now)
+
+pub returns-in_err-push_more-clause-order : goal.returns-in_err-push_more-clause-order
+returns-in_err-push_more-clause-order c = are-told (misses_of c.args.season.now.league.now c.args.season.now.games.now)
