@@ -1,5 +1,5 @@
 //! A random double round robin to start from.
-ghost use Rattle.std.specs.Prelude.{◌≡◌, ◌<◌, ◌*◌, ◌-◌, IfOk, IfSome, OnOk};
+ghost use Rattle.std.specs.Prelude.{◌≡◌, ◌≢◌, ◌<◌, ◌*◌, ◌-◌, IfOk, IfSome, OnOk};
 ghost use Rattle.std.specs.List.{All};
 ghost use Rattle.league.specs.Instance.{IsGame, IsTeamCount};
 ghost use Rattle.walk.specs.Standing.{IsStartIn};
@@ -106,34 +106,32 @@ fn add_pair(
     if other <= team || n <= other {
         return Ok(());
     }
-    add_meeting(schedule, n, TeamId(team), TeamId(other), slot, random)?;
-    Ok(())
+    if below(random, 2) == 0 {
+        add_meeting(schedule, n, TeamId(team), TeamId(other), slot)
+    } else {
+        add_meeting(schedule, n, TeamId(other), TeamId(team), slot)
+    }
 }
 
-/// Adds the two games of two teams, the first at a random venue.
+/// Adds the two games of two teams, the first at the first one's home.
 ///
 /// # Errors
 /// Only where memory runs out.
 fn add_meeting(
     schedule: &mut Schedule,
     n: u16,
-    team: TeamId,
-    other: TeamId,
+    home: TeamId,
+    away: TeamId,
     slot: u16,
-    random: &mut Pcg32,
 ) -> Result<(), AllocError>
     requires teams { IsTeamCount n }
     requires slot { slot < n - 1 }
-    requires team { team.0 < other.0 }
-    requires other { other.0 < n }
+    requires home { home.0 < n }
+    requires away { away.0 < n }
+    requires differ { home.0 ≢ away.0 }
     requires fit { All (IsGame n) schedule.old }
     ensures { OnOk result (All (IsGame n) schedule.new) }
 {
-    let (home, away) = if below(random, 2) == 0 {
-        (team, other)
-    } else {
-        (other, team)
-    };
     schedule.push(Game {
         home,
         away,

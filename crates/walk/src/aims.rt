@@ -1,8 +1,9 @@
 //! Where a move is aimed that is to meet a hard constraint.
-ghost use Rattle.std.specs.Prelude.{◌<◌, IfSome};
+ghost use Rattle.std.specs.Prelude.{◌≢◌, ◌<◌, IfSome};
 ghost use Rattle.league.specs.Counts.{slot_count};
 
 use crate::draws::{any_of, below};
+use crate::subjects::{slots_of, teams_of};
 use crate::weighed::WeighedParts;
 use league::{Class, TeamId};
 use moves::Board;
@@ -45,9 +46,9 @@ fn aim_in(random: &mut Pcg32, board: &Board, class: &Class) -> Option<Aim> {
 /// One of these teams, and a slot in which it meets another of them.
 fn aim_at_pair(random: &mut Pcg32, board: &Board, teams: &[u16]) -> Option<Aim> {
     let first = any_of(random, teams)?;
-    let second = teams.iter().copied().find(|team| *team != first)?;
+    let second = another(teams, first)?;
     let n = board.n();
-    if first == second || first >= n || second >= n {
+    if first >= n || second >= n {
         return None;
     }
     let slot = if below(random, 2) == 0 {
@@ -61,34 +62,33 @@ fn aim_at_pair(random: &mut Pcg32, board: &Board, teams: &[u16]) -> Option<Aim> 
     })
 }
 
+/// The first of these teams that is another than this one.
+fn another(teams: &[u16], team: u16) -> Option<u16>
+    ensures { IfSome result (λ other. other ≢ team) }
+{
+    for other in teams {
+        if *other != team {
+            return Some(*other);
+        }
+    }
+    None
+}
+
 /// A team of which a part speaks.
 fn team_in(random: &mut Pcg32, class: &Class) -> Option<u16> {
     match class {
-        Class::Ca1 { teams, .. }
-        | Class::Br1 { teams, .. }
-        | Class::Br2 { teams, .. }
-        | Class::Fa2 { teams, .. }
-        | Class::Se1 { teams, .. } => any_of(random, teams.numbers()),
-        Class::Ca2 { teams1, .. } | Class::Ca3 { teams1, .. } | Class::Ca4 { teams1, .. } => {
-            any_of(random, teams1.numbers())
-        }
         Class::Ga1 { meetings, .. } => {
             let (home, away) = any_of(random, meetings.numbers())?;
             Some(if below(random, 2) == 0 { home } else { away })
         }
+        class => any_of(random, teams_of(class)),
     }
 }
 
 /// A slot of which a part speaks: any of the season where it names none.
 fn slot_in(random: &mut Pcg32, board: &Board, class: &Class) -> Option<u16> {
     match class {
-        Class::Ca1 { slots, .. }
-        | Class::Ca2 { slots, .. }
-        | Class::Ca4 { slots, .. }
-        | Class::Ga1 { slots, .. }
-        | Class::Br1 { slots, .. }
-        | Class::Br2 { slots, .. }
-        | Class::Fa2 { slots, .. } => any_of(random, slots.numbers()),
         Class::Ca3 { .. } | Class::Se1 { .. } => Some(below(random, 2 * (board.n() - 1))),
+        class => any_of(random, slots_of(class)),
     }
 }

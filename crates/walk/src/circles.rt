@@ -14,7 +14,6 @@ use crate::walker::{Patience, Walker};
 use crate::weighed::WeighedParts;
 use crate::weights::Weighing;
 use circle_method::double;
-use descent::Score;
 use league::{League, Schedule};
 use robin_watch::Listener;
 use std::alloc::{AllocError, Global};
@@ -151,6 +150,26 @@ impl Walker {
         ensures left { OnOk result (self.new.left ≤ self.old.left) }
     {
         let mut parts = WeighedParts::new(alloc, league, Weighing::Together(course.weight))?;
+        self.walk_on_parts(alloc, league, &mut parts, course, watch)
+    }
+
+    /// Walks so on the parts of all constraints.
+    ///
+    /// # Errors
+    /// Only where memory runs out.
+    fn walk_on_parts<W: Listener>(
+        &mut self,
+        alloc: Global,
+        league: &League,
+        parts: &mut WeighedParts,
+        course: Course,
+        watch: &W,
+    ) -> Result<u128, AllocError>
+        requires walker { IsWalkerIn league.now self.old }
+        ensures walker { OnOk result (IsWalkerIn league.now self.new) }
+        ensures no_worse { OnOk result (IsNoWorse self.new.best.score self.old.best.score) }
+        ensures left { OnOk result (self.new.left ≤ self.old.left) }
+    {
         let end = self.left.saturating_sub(course.moves);
         let mut lowest = u128::MAX;
         'stretches: for _stretch in 0..course.moves / STRETCH + 1000 {
@@ -159,13 +178,7 @@ impl Walker {
             }
             parts.set_goal(self.goal());
             let stage = course.stage(self.left - end);
-            let sum = self.stretch(&mut parts, stage, watch);
-            let said = Score {
-                infeasibility: sum,
-                objective: u128::from(parts.sum()),
-            };
-            self.keep_lower(alloc, league, said)?;
-            self.tell(league, watch);
+            let sum = self.stretch(alloc, league, parts, stage, watch)?;
             lowest = lowest.min(sum);
         }
         Ok(lowest)
@@ -188,8 +201,7 @@ impl Walker {
         ensures best { OnOk result (self.new.best ≡ self.old.best) }
         ensures left { OnOk result (self.new.left ≡ self.old.left) }
     {
-        let mut parts = WeighedParts::new(alloc, league, Weighing::SOFT)?;
-        parts.count(&self.standing.board);
+        let mut parts = WeighedParts::on(alloc, league, Weighing::SOFT, &self.standing.board)?;
         let change = usual_change(
             alloc,
             &mut self.standing.random,

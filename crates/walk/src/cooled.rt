@@ -4,7 +4,7 @@ ghost use Rattle.descent.specs.Score.{IsNoWorse};
 ghost use Rattle.walk.specs.Standing.{IsWalkerIn};
 
 use crate::standing::{STRETCH, Stage};
-use crate::walker::{Walker, unweighed};
+use crate::walker::Walker;
 use crate::weighed::WeighedParts;
 use crate::weights::Weighing;
 use league::League;
@@ -55,17 +55,35 @@ impl Walker {
             return Ok(());
         }
         let moves = (self.left / 5).saturating_mul(4);
-        let end = self.left.saturating_sub(moves);
         let mut parts = WeighedParts::new(alloc, league, Weighing::Slow(growth(moves)))?;
+        self.cool_parts(alloc, league, &mut parts, moves, watch)
+    }
+
+    /// Walks so on the parts of the hard constraints, by so many moves.
+    ///
+    /// # Errors
+    /// Only where memory runs out.
+    fn cool_parts<W: Listener>(
+        &mut self,
+        alloc: Global,
+        league: &League,
+        parts: &mut WeighedParts,
+        moves: u64,
+        watch: &W,
+    ) -> Result<(), AllocError>
+        requires walker { IsWalkerIn league.now self.old }
+        ensures walker { OnOk result (IsWalkerIn league.now self.new) }
+        ensures no_worse { OnOk result (IsNoWorse self.new.best.score self.old.best.score) }
+        ensures left { OnOk result (self.new.left ≤ self.old.left) }
+    {
+        let end = self.left.saturating_sub(moves);
         'stretches: for _stretch in 0..moves / STRETCH + 1000 {
             if self.left <= end || self.is_over(watch) {
                 return Ok(());
             }
             let left = self.left - end;
             let stage = Stage::cooling(left.min(STRETCH), heat(moves, left));
-            let sum = self.stretch(&mut parts, stage, watch);
-            self.keep_lower(alloc, league, unweighed(sum))?;
-            self.tell(league, watch);
+            let sum = self.stretch(alloc, league, parts, stage, watch)?;
             if sum == 0 {
                 return Ok(());
             }

@@ -121,23 +121,33 @@ impl Factors {
     /// The first slot, from some slot on, in which a team is free.
     fn free_slot(&self, team: u16, random: &mut Pcg32) -> Option<u16> {
         let start = self.any_slot(random);
-        let slots = start..self.slots;
-        slots
-            .chain(0..start)
-            .find(|slot| self.opponent(team, *slot).is_none())
+        for slot in (start..self.slots).chain(0..start) {
+            if self.opponent(team, slot).is_none() {
+                return Some(slot);
+            }
+        }
+        None
     }
 
     /// The first team, from some team on, that a team has not met.
     fn lacked_opponent(&self, team: u16, random: &mut Pcg32) -> Option<u16> {
         let start = self.any_team(random);
-        let others = start..self.n;
-        others.chain(0..start).find(|other| *other != team
-            && entry(&self.meetings, team, *other).is_none())
+        for other in (start..self.n).chain(0..start) {
+            if other != team && entry(&self.meetings, team, other).is_none() {
+                return Some(other);
+            }
+        }
+        None
     }
 
     /// The first team, from one on, that is free in a slot.
     fn free_team(&self, slot: u16, start: u16) -> Option<u16> {
-        (start..self.n).find(|team| self.opponent(*team, slot).is_none())
+        for team in start..self.n {
+            if self.opponent(team, slot).is_none() {
+                return Some(team);
+            }
+        }
+        None
     }
 
     /// Lets two teams meet in a slot.

@@ -28,6 +28,7 @@ mod plays;
 mod scale;
 mod spots;
 mod standing;
+mod subjects;
 mod threshold;
 mod trades;
 mod walked;

@@ -54,6 +54,15 @@ pub(crate) fn add_at(
     Ok(())
 }
 
+/// The middle one of some numbers, the higher one of two, where there are any.
+///
+/// # Errors
+/// Only where memory runs out.
+pub(crate) fn middle_of(mut numbers: Vec<u64>) -> Result<Option<u64>, AllocError> {
+    numbers.sort()?;
+    Ok(numbers.get(numbers.len() / 2).copied())
+}
+
 /// A bit for each of some slots.
 pub(crate) fn bits_of(slots: &[u16]) -> u128 {
     let mut bits = 0u128;

@@ -1,7 +1,8 @@
 //! Constraints in parts, each of which is weighed by itself: one for each entry of their deviations.
 
+use crate::subjects::{slots_of, teams_of};
 use crate::weights::{Weighing, Weight};
-use league::{Class, Constraint, League, SlotId, SlotSet, Span, TeamId, TeamSet};
+use league::{Class, ClassName, Constraint, League, SlotId, SlotSet, Span, TeamId, TeamSet};
 use std::alloc::{AllocError, Global};
 
 /// Behind so many parts no further constraints are weighed.
@@ -51,22 +52,30 @@ fn add_parts(
     if parts.len() >= MOST {
         return Ok(());
     }
-    match &constraint.class {
-        Class::Ca1 { teams, .. } | Class::Br1 { teams, .. } => {
-            add_teams(alloc, constraint, teams.numbers(), parts)
+    let class = &constraint.class;
+    let teams = teams_of(class);
+    match class.name() {
+        ClassName::Ca1 | ClassName::Ca2 | ClassName::Br1 => {
+            add_teams(alloc, constraint, teams, parts)
         }
-        Class::Ca2 { teams1, .. } => add_teams(alloc, constraint, teams1.numbers(), parts),
-        Class::Ca3 { teams1, .. } => add_windows(alloc, n, constraint, teams1.numbers(), parts),
+        ClassName::Ca3 => add_windows(alloc, n, constraint, teams, parts),
+        ClassName::Fa2 | ClassName::Se1 => add_pairs(alloc, constraint, teams, parts),
+        ClassName::Ca4 if bounds_each_slot(class) => {
+            add_slots(alloc, constraint, slots_of(class), parts)
+        }
+        ClassName::Ca4 | ClassName::Ga1 | ClassName::Br2 => add_whole(constraint, parts),
+    }
+}
+
+/// Whether it is a CA4 that bounds each slot by itself.
+fn bounds_each_slot(class: &Class) -> bool {
+    matches!(
+        class,
         Class::Ca4 {
             span: Span::Every,
-            slots,
             ..
-        } => add_slots(alloc, constraint, slots.numbers(), parts),
-        Class::Fa2 { teams, .. } | Class::Se1 { teams, .. } => {
-            add_pairs(alloc, constraint, teams.numbers(), parts)
         }
-        _ => add_whole(constraint, parts),
-    }
+    )
 }
 
 /// Adds a constraint as one part.
@@ -145,15 +154,25 @@ fn add_windows_of(
     };
     let slots = n.saturating_sub(1).saturating_mul(2);
     for first in 0..slots {
-        if u32::from(first).saturating_add(*intp) <= u32::from(slots) {
-            let mut window = SlotSet::new(alloc);
-            for slot in (first..slots).take(*intp as usize) {
-                window.insert(SlotId(slot))?;
-            }
+        let end = u32::from(first).saturating_add(*intp);
+        if end <= u32::from(slots) {
+            let window = slots_between(alloc, first, end as u16)?;
             parts.push(in_window(alloc, constraint, team, window)?)?;
         }
     }
     Ok(())
+}
+
+/// The slots from one on, as far as another one, which isn't among them.
+///
+/// # Errors
+/// Only where memory runs out.
+fn slots_between(alloc: Global, first: u16, end: u16) -> Result<SlotSet, AllocError> {
+    let mut slots = SlotSet::new(alloc);
+    for slot in first..end {
+        slots.insert(SlotId(slot))?;
+    }
+    Ok(slots)
 }
 
 /// What a CA3 demands of a team in a window of slots: a CA2.
@@ -203,15 +222,28 @@ fn add_slots(
     parts: &mut Vec<Constraint>,
 ) -> Result<(), AllocError> {
     for slot in slots {
-        let mut one = SlotSet::new(alloc);
-        one.insert(SlotId(*slot))?;
-        let mut part = constraint.copy()?;
-        if let Class::Ca4 { slots, .. } = &mut part.class {
-            *slots = one;
-        }
-        parts.push(part)?;
+        parts.push(in_slot(alloc, constraint, *slot)?)?;
     }
     Ok(())
+}
+
+/// What a CA4 demands of one slot.
+///
+/// # Errors
+/// Only where memory runs out.
+fn in_slot(alloc: Global, constraint: &Constraint, slot: u16) -> Result<Constraint, AllocError> {
+    let mut one = SlotSet::new(alloc);
+    one.insert(SlotId(slot))?;
+    let mut part = constraint.copy()?;
+    set_slots(&mut part.class, one);
+    Ok(part)
+}
+
+/// Lets a CA4 speak of these slots.
+fn set_slots(class: &mut Class, some: SlotSet) {
+    if let Class::Ca4 { slots, .. } = class {
+        *slots = some;
+    }
 }
 
 /// A constraint that speaks of these teams only.
@@ -223,12 +255,27 @@ fn of_teams(
     constraint: &Constraint,
     numbers: &[u16],
 ) -> Result<Constraint, AllocError> {
-    let mut some = TeamSet::new(alloc);
-    for number in numbers {
-        some.insert(TeamId(*number))?;
-    }
+    let teams = team_set(alloc, numbers)?;
     let mut part = constraint.copy()?;
-    match &mut part.class {
+    set_teams(&mut part.class, teams);
+    Ok(part)
+}
+
+/// A set of these teams.
+///
+/// # Errors
+/// Only where memory runs out.
+fn team_set(alloc: Global, numbers: &[u16]) -> Result<TeamSet, AllocError> {
+    let mut teams = TeamSet::new(alloc);
+    for number in numbers {
+        teams.insert(TeamId(*number))?;
+    }
+    Ok(teams)
+}
+
+/// Lets a class speak of these teams, where parts of it are by team.
+fn set_teams(class: &mut Class, some: TeamSet) {
+    match class {
         Class::Ca1 { teams, .. }
         | Class::Br1 { teams, .. }
         | Class::Fa2 { teams, .. }
@@ -236,5 +283,4 @@ fn of_teams(
         Class::Ca2 { teams1, .. } | Class::Ca3 { teams1, .. } => *teams1 = some,
         _ => {}
     }
-    Ok(part)
 }

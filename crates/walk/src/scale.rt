@@ -2,6 +2,7 @@
 ghost use Rattle.std.specs.Prelude.{◌≡◌};
 
 use crate::draws::home_swap;
+use crate::lists::middle_of;
 use crate::weighed::WeighedParts;
 use moves::{Board, Edit, edit_of};
 use rand_pcg::Pcg32;
@@ -21,19 +22,29 @@ pub(crate) fn usual_change(
     board: &Board,
     parts: &mut WeighedParts,
 ) -> Result<u64, AllocError> {
+    let changes = drawn_changes(alloc, random, board, parts)?;
+    Ok(middle_of(changes)?.unwrap_or(1))
+}
+
+/// How much more or less the parts weigh after each drawn move that changes it.
+///
+/// # Errors
+/// Only where memory runs out.
+fn drawn_changes(
+    alloc: Global,
+    random: &mut Pcg32,
+    board: &Board,
+    parts: &mut WeighedParts,
+) -> Result<Vec<u64>, AllocError> {
     let mut edit = Edit::new(alloc, board.n())?;
-    let mut changes = Vec::with_capacity(alloc, LOOKS)?;
+    let mut changes = Vec::new(alloc);
     'looks: for _look in 0..LOOKS {
         let change = change_of_move(random, board, &mut edit, parts);
         if change > 0 {
             changes.push(change)?;
         }
     }
-    changes.sort()?;
-    match changes.get(changes.len() / 2) {
-        Some(change) => Ok(*change),
-        None => Ok(1),
-    }
+    Ok(changes)
 }
 
 /// How much more or less the parts would weigh after a drawn move of two teams' venues.

@@ -1,7 +1,8 @@
 //! Which parts of the hard constraints a game can change: the order in which unmet ones are listed goes by it.
 
 use crate::lists::{SLOTS, TEAMS, add_at, empty_lists, list_at, place};
-use league::{Class, Constraint, SlotId, TeamId};
+use crate::subjects::{meetings_of, slots_of, teams_of};
+use league::{Class, ClassName, Constraint, SlotId, TeamId};
 use std::alloc::{AllocError, Global};
 
 /// The numbers of hard constraints' parts: by team and slot those that a game of the team there can change, and by home
@@ -46,20 +47,15 @@ impl Spots {
     /// # Errors
     /// Only where memory runs out.
     fn add(&mut self, number: usize, class: &Class) -> Result<(), AllocError> {
-        match class {
-            Class::Ca1 { teams, slots, .. } => {
-                self.add_cells(number, teams.numbers(), slots.numbers())
+        let teams = teams_of(class);
+        match class.name() {
+            ClassName::Ca1 | ClassName::Ca2 | ClassName::Ca4 => {
+                self.add_cells(number, teams, slots_of(class))
             }
-            Class::Ca2 { teams1, slots, .. } | Class::Ca4 { teams1, slots, .. } => {
-                self.add_cells(number, teams1.numbers(), slots.numbers())
-            }
-            Class::Br1 { teams, slots, .. } | Class::Br2 { teams, slots, .. } => {
-                self.add_breaks(number, teams.numbers(), slots.numbers())
-            }
-            Class::Ca3 { teams1, .. } => self.add_teams(number, teams1.numbers()),
-            Class::Fa2 { teams, .. } => self.add_teams(number, teams.numbers()),
-            Class::Ga1 { meetings, .. } => self.add_meetings(number, meetings.numbers()),
-            Class::Se1 { teams, .. } => self.add_pairs(number, teams.numbers()),
+            ClassName::Br1 | ClassName::Br2 => self.add_breaks(number, teams, slots_of(class)),
+            ClassName::Ca3 | ClassName::Fa2 => self.add_teams(number, teams),
+            ClassName::Ga1 => self.add_meetings(number, meetings_of(class)),
+            ClassName::Se1 => self.add_pairs(number, teams),
         }
     }
 
@@ -86,15 +82,8 @@ impl Spots {
         teams: &[u16],
         slots: &[u16],
     ) -> Result<(), AllocError> {
-        for team in teams {
-            for slot in slots {
-                add_at(
-                    &mut self.cells,
-                    place(*team, SLOTS, slot.saturating_sub(1)),
-                    number,
-                )?;
-                add_at(&mut self.cells, place(*team, SLOTS, *slot), number)?;
-            }
+        for slot in slots {
+            self.add_cells(number, teams, &[slot.saturating_sub(1), *slot])?;
         }
         Ok(())
     }

@@ -1,6 +1,7 @@
 //! How much worse a move may make a schedule.
 ghost use Rattle.std.specs.Prelude.{◌≡◌};
 
+use crate::lists::middle_of;
 use descent::Score;
 use league::League;
 use rand_core::utils::NextWord;
@@ -21,22 +22,32 @@ pub(crate) fn drawn_threshold(random: &mut Pcg32, heat: u64) -> u64 {
     heat.saturating_mul(eighths(random)) / 2048
 }
 
-/// Twice the middle one of the penalties of a league's soft constraints.
+/// Twice the middle one of the penalties of a league's soft constraints, and a fourth of that for games of few breaks.
 ///
 /// # Errors
 /// Only where memory runs out.
-pub(crate) fn soft_heat(alloc: Global, league: &League) -> Result<u64, AllocError> {
+pub(crate) fn soft_heat(
+    alloc: Global,
+    league: &League,
+    few_breaks: bool,
+) -> Result<u64, AllocError> {
+    let penalties = soft_penalties(alloc, league)?;
+    let heat = middle_of(penalties)?.unwrap_or(0).saturating_mul(2);
+    Ok(if few_breaks { heat / 4 } else { heat })
+}
+
+/// The penalties of a league's soft constraints.
+///
+/// # Errors
+/// Only where memory runs out.
+fn soft_penalties(alloc: Global, league: &League) -> Result<Vec<u64>, AllocError> {
     let mut penalties = Vec::new(alloc);
     for constraint in league.constraints() {
         if !constraint.hard {
-            penalties.push(constraint.penalty)?;
+            penalties.push(u64::from(constraint.penalty))?;
         }
     }
-    penalties.sort()?;
-    match penalties.get(penalties.len() / 2) {
-        Some(middle) => Ok(u64::from(*middle) * 2),
-        None => Ok(0),
-    }
+    Ok(penalties)
 }
 
 /// A whole number of moves over which the heat of drawn thresholds falls to 0, and how many of them are left.

@@ -160,6 +160,11 @@ impl Walker {
         self.is_done() || watch.is_over(self.tried())
     }
 
+    /// Whether no move may be tried any more, or the watch ends the walk.
+    fn is_spent<W: Listener>(&self, watch: &W) -> bool {
+        self.left == 0 || watch.is_over(self.tried())
+    }
+
     /// How many moves were tried.
     pub(crate) fn tried(&self) -> u64 {
         self.budget.saturating_sub(self.left)
@@ -267,27 +272,65 @@ impl Walker {
         ensures left { OnOk result (self.new.left ≤ self.old.left) }
     {
         let mut hard = WeighedParts::new(alloc, league, Weighing::Hard)?;
+        self.meet_parts(alloc, league, &mut hard, patience, watch)
+    }
+
+    /// Looks so for games that meet the parts of the hard constraints.
+    ///
+    /// # Errors
+    /// Only where memory runs out.
+    fn meet_parts<W: Listener>(
+        &mut self,
+        alloc: Global,
+        league: &League,
+        hard: &mut WeighedParts,
+        patience: Patience,
+        watch: &W,
+    ) -> Result<u128, AllocError>
+        requires walker { IsWalkerIn league.now self.old }
+        ensures walker { OnOk result (IsWalkerIn league.now self.new) }
+        ensures no_worse { OnOk result (IsNoWorse self.new.best.score self.old.best.score) }
+        ensures left { OnOk result (self.new.left ≤ self.old.left) }
+    {
         let mut patience = patience;
         'stretches: for _stretch in 0..self.left / STRETCH + 1 {
             let stage = Stage::meeting(self.left.min(STRETCH));
-            let sum = self.stretch(&mut hard, stage, watch);
-            self.keep_lower(alloc, league, unweighed(sum))?;
-            self.tell(league, watch);
-            if sum == 0 || self.left == 0 || patience.ends(sum) || watch.is_over(self.tried()) {
+            let sum = self.stretch(alloc, league, hard, stage, watch)?;
+            if sum == 0 || patience.ends(sum) || self.is_spent(watch) {
                 return Ok(sum);
             }
         }
         Ok(u128::MAX)
     }
 
-    /// One stretch of so many moves, by the weights as they are, which are adapted then. Says what the hard constraints
-    /// cost at its end.
+    /// One stretch of the moves of a stage, at whose end the games are kept where they are better than the best so far.
+    /// Says what the hard constraints cost then.
+    ///
+    /// # Errors
+    /// Only where memory runs out.
     pub(crate) fn stretch<W: Listener>(
         &mut self,
+        alloc: Global,
+        league: &League,
         parts: &mut WeighedParts,
         stage: Stage,
         watch: &W,
-    ) -> u128
+    ) -> Result<u128, AllocError>
+        requires walker { IsWalkerIn league.now self.old }
+        requires limit { stage.limit ≤ self.old.left }
+        ensures walker { OnOk result (IsWalkerIn league.now self.new) }
+        ensures no_worse { OnOk result (IsNoWorse self.new.best.score self.old.best.score) }
+        ensures left { OnOk result (self.new.left ≤ self.old.left) }
+    {
+        self.move_on(parts, stage, watch);
+        let said = parts.score();
+        self.keep_lower(alloc, league, said)?;
+        self.tell(league, watch);
+        Ok(said.infeasibility)
+    }
+
+    /// Tries the moves of a stage, by the weights as they are, which are adapted then.
+    fn move_on<W: Listener>(&mut self, parts: &mut WeighedParts, stage: Stage, watch: &W)
         requires standing { IsStandingOn self.old.standing.board.n self.old.standing.board.phased
             (round_counts self.old.standing.board) self.old.standing }
         requires limit { stage.limit ≤ self.old.left }
@@ -299,7 +342,6 @@ impl Walker {
         let tried = self.standing.meet(stage, parts, watch);
         self.left -= tried;
         parts.adapt();
-        parts.price()
     }
 
     /// Keeps the games where they are better than the best so far, if they are said to be.
@@ -345,6 +387,7 @@ impl Walker {
         ensures seen { OnOk result (HasKeptHere league.now self.new) }
         ensures left { OnOk result (self.new.left ≤ self.old.left) }
     {
+        let heat = soft_heat(alloc, league, few_breaks)?;
         copy_games(&self.standing.board, &mut self.games);
         let mut steps = Steps::<Plain>::start();
         let mut tally = league_tally(alloc, league, 1, &self.games, &mut steps)?;
@@ -352,18 +395,41 @@ impl Walker {
         if tally.infeasibility() > 0 {
             return Ok(());
         }
-        let heat = soft_heat(alloc, league)?;
-        let heat = if few_breaks { heat / 4 } else { heat };
-        let mut parts = WeighedParts::new(alloc, league, Weighing::STRICT)?;
-        parts.count(&self.standing.board);
-        self.soften(league, heat, &mut tally, &mut parts, watch);
+        self.soften(alloc, league, heat, &mut tally, watch)?;
         Ok(())
     }
 
-    /// From games that meet the hard constraints, of which the tally is and which the parts follow, goes on to better
-    /// ones, in stretches, until no move may be tried any more, nothing is left to lower, or the watch ends the walk.
-    /// Thresholds cool down from this heat.
+    /// From games that meet the hard constraints, of which the tally is, goes on to better ones, in stretches, until no
+    /// move may be tried any more, nothing is left to lower, or the watch ends the walk. Thresholds cool down from this
+    /// heat.
+    ///
+    /// # Errors
+    /// Only where memory runs out.
     fn soften<W: Listener>(
+        &mut self,
+        alloc: Global,
+        league: &League,
+        heat: u64,
+        tally: &mut Tally<AnyRule>,
+        watch: &W,
+    ) -> Result<(), AllocError>
+        requires walker { IsWalkerIn league.now self.old }
+        requires rules { AreRulesOf ⟦<AnyRule as Entries>⟧ 1 league.now tally.old.weights }
+        requires teams { tally.old.table.n ≡ league.now.n }
+        requires counts { table_counts tally.old.table ≡ round_counts self.old.standing.board }
+        requires seen { HasKeptHere league.now self.old }
+        ensures walker { OnOk result (IsWalkerIn league.now self.new) }
+        ensures no_worse { OnOk result (IsNoWorse self.new.best.score self.old.best.score) }
+        ensures seen { OnOk result (HasKeptHere league.now self.new) }
+        ensures left { OnOk result (self.new.left ≤ self.old.left) }
+    {
+        let mut parts = WeighedParts::on(alloc, league, Weighing::STRICT, &self.standing.board)?;
+        self.soften_parts(league, heat, tally, &mut parts, watch);
+        Ok(())
+    }
+
+    /// Goes on so to better games, which the parts follow, too.
+    fn soften_parts<W: Listener>(
         &mut self,
         league: &League,
         heat: u64,
@@ -388,7 +454,7 @@ impl Walker {
                 .improve(cooling.at(self.left), &mut self.best, tally, parts, watch);
             self.left -= tried;
             self.tell(league, watch);
-            if self.left == 0 || tally.objective() == 0 || watch.is_over(self.tried()) {
+            if tally.objective() == 0 || self.is_spent(watch) {
                 return;
             }
         }
@@ -422,14 +488,6 @@ impl Walker {
         ensures { result ≡ self.best }
     {
         self.best
-    }
-}
-
-/// A score of which only what the hard constraints cost is known.
-pub(crate) fn unweighed(infeasibility: u128) -> Score {
-    Score {
-        infeasibility,
-        objective: u128::MAX,
     }
 }
 

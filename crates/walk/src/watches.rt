@@ -1,7 +1,8 @@
 //! Which parts count a game, a venue or a break.
 
 use crate::lists::{SLOTS, TEAMS, add_at, bits_of, empty_lists, list_at, place};
-use league::{Class, Constraint, Side};
+use crate::subjects::{meetings_of, opponents_in, side_of, slots_of, teams_of};
+use league::{Class, ClassName, Constraint, Side};
 use std::alloc::{AllocError, Global};
 
 /// What a team has in a slot.
@@ -16,6 +17,16 @@ pub(crate) enum Mark {
 impl Mark {
     /// Each of them.
     pub(crate) const ALL: [Mark; 4] = [Mark::Home, Mark::Away, Mark::HomeBreak, Mark::AwayBreak];
+
+    /// Its place among them.
+    fn place(self) -> usize {
+        match self {
+            Mark::Home => 0,
+            Mark::Away => 1,
+            Mark::HomeBreak => 2,
+            Mark::AwayBreak => 3,
+        }
+    }
 }
 
 /// A part that counts a meeting in some slots.
@@ -43,15 +54,12 @@ impl Watch {
     }
 }
 
-/// The numbers of parts: by home and away team those that count their game or ask for its slot, by team and slot those
-/// that count a home game, an away game, or a break, and by team those that compare its home games with another's.
+/// The numbers of parts: by home and away team those that count their game or ask for its slot, by team, slot and mark
+/// those that count what the team has there, and by team those that compare its home games with another's.
 #[derive(Drop)]
 pub(crate) struct Watches {
     meetings: Vec<Vec<Watch>>,
-    homes: Vec<Vec<usize>>,
-    aways: Vec<Vec<usize>>,
-    home_breaks: Vec<Vec<usize>>,
-    away_breaks: Vec<Vec<usize>>,
+    marks: Vec<Vec<usize>>,
     leads: Vec<Vec<usize>>,
     have_leads: bool,
 }
@@ -63,20 +71,24 @@ impl Watches {
     /// # Errors
     /// Only where memory runs out.
     pub(crate) fn new(alloc: Global, n: u16, parts: &[Constraint]) -> Result<Watches, AllocError> {
-        let cells = usize::from(TEAMS * SLOTS);
-        let mut watches = Watches {
-            meetings: empty_lists(alloc, usize::from(TEAMS * TEAMS))?,
-            homes: empty_lists(alloc, cells)?,
-            aways: empty_lists(alloc, cells)?,
-            home_breaks: empty_lists(alloc, cells)?,
-            away_breaks: empty_lists(alloc, cells)?,
-            leads: empty_lists(alloc, usize::from(TEAMS))?,
-            have_leads: false,
-        };
+        let mut watches = Watches::none(alloc)?;
         for (number, part) in parts.iter().enumerate() {
             watches.add(number, n, &part.class)?;
         }
         Ok(watches)
+    }
+
+    /// No parts.
+    ///
+    /// # Errors
+    /// Only where memory runs out.
+    fn none(alloc: Global) -> Result<Watches, AllocError> {
+        Ok(Watches {
+            meetings: empty_lists(alloc, usize::from(TEAMS * TEAMS))?,
+            marks: empty_lists(alloc, usize::from(TEAMS * SLOTS) * Mark::ALL.len())?,
+            leads: empty_lists(alloc, usize::from(TEAMS))?,
+            have_leads: false,
+        })
     }
 
     /// The parts that count a home team's game against another, or ask for its slot.
@@ -89,13 +101,7 @@ impl Watches {
 
     /// The parts that count what a team has in a slot.
     pub(crate) fn of_mark(&self, mark: Mark, team: u16, slot: u16) -> &[usize] {
-        let lists = match mark {
-            Mark::Home => &self.homes,
-            Mark::Away => &self.aways,
-            Mark::HomeBreak => &self.home_breaks,
-            Mark::AwayBreak => &self.away_breaks,
-        };
-        list_at(lists, place(team, SLOTS, slot))
+        list_at(&self.marks, place_of_mark(mark, team, slot))
     }
 
     /// The parts that compare a team's home games with another's.
@@ -108,112 +114,68 @@ impl Watches {
         self.have_leads
     }
 
-    /// Adds a part.
+    /// Adds a part. A CA3 has no part of its own: its windows are parts of CA2.
     ///
     /// # Errors
     /// Only where memory runs out.
     fn add(&mut self, number: usize, n: u16, class: &Class) -> Result<(), AllocError> {
-        match class {
-            Class::Ca1 {
-                teams,
-                side,
-                slots,
-                ..
-            } => self.add_venues(number, teams.numbers(), *side, slots.numbers()),
-            Class::Br1 {
-                teams,
-                side,
-                slots,
-                ..
-            } => self.add_breaks(number, teams.numbers(), *side, slots.numbers()),
-            Class::Br2 { teams, slots, .. } => {
-                self.add_breaks(number, teams.numbers(), Side::Both, slots.numbers())
+        match class.name() {
+            ClassName::Ca1 => self.add_venues(number, class),
+            ClassName::Ca2 | ClassName::Ca4 => self.add_games(number, n, class),
+            ClassName::Ga1 => {
+                self.add_meetings(Watch::of(number, slots_of(class)), meetings_of(class))
             }
-            Class::Fa2 { teams, .. } => self.add_leads(number, teams.numbers()),
-            class => self.add_games_of(number, n, class),
+            ClassName::Br1 | ClassName::Br2 => self.add_breaks(number, class),
+            ClassName::Fa2 => self.add_leads(number, teams_of(class)),
+            ClassName::Se1 => self.add_games_between(
+                Watch::of_any(number),
+                teams_of(class),
+                teams_of(class),
+                Side::Both,
+            ),
+            ClassName::Ca3 => Ok(()),
         }
     }
 
-    /// Adds a part that counts games, or asks for the slots of two teams' games. Games against all teams on one side are
-    /// counted as venues. A CA3 has no part of its own: its windows are parts of CA2. `add` adds the other classes.
+    /// Adds a part that counts the games of its teams on its side in its slots.
     ///
     /// # Errors
     /// Only where memory runs out.
-    fn add_games_of(&mut self, number: usize, n: u16, class: &Class) -> Result<(), AllocError> {
-        match class {
-            Class::Ca2 {
-                teams1,
-                teams2,
-                side,
-                slots,
-                ..
-            }
-            | Class::Ca4 {
-                teams1,
-                teams2,
-                side,
-                slots,
-                ..
-            } => {
-                if *side != Side::Both && teams2.len() == usize::from(n) {
-                    return self.add_venues(number, teams1.numbers(), *side, slots.numbers());
-                }
-                let watch = Watch::of(number, slots.numbers());
-                self.add_games(watch, teams1.numbers(), teams2.numbers(), *side)
-            }
-            Class::Ga1 {
-                meetings,
-                slots,
-                ..
-            } => self.add_meetings(Watch::of(number, slots.numbers()), meetings.numbers()),
-            Class::Se1 { teams, .. } => {
-                let watch = Watch::of_any(number);
-                self.add_games(watch, teams.numbers(), teams.numbers(), Side::Both)
-            }
-            Class::Ca1 { .. }
-            | Class::Ca3 { .. }
-            | Class::Br1 { .. }
-            | Class::Br2 { .. }
-            | Class::Fa2 { .. } => Ok(()),
-        }
-    }
-
-    /// Adds a part that counts the games of these teams on a side in these slots.
-    ///
-    /// # Errors
-    /// Only where memory runs out.
-    fn add_venues(
-        &mut self,
-        number: usize,
-        teams: &[u16],
-        side: Side,
-        slots: &[u16],
-    ) -> Result<(), AllocError> {
+    fn add_venues(&mut self, number: usize, class: &Class) -> Result<(), AllocError> {
+        let side = side_of(class);
         if side != Side::A {
-            add_cells(&mut self.homes, number, teams, slots)?;
+            self.add_marks(number, Mark::Home, class)?;
         }
         if side != Side::H {
-            add_cells(&mut self.aways, number, teams, slots)?;
+            self.add_marks(number, Mark::Away, class)?;
         }
         Ok(())
     }
 
-    /// Adds a part that counts the breaks of these teams on a side at these slots.
+    /// Adds a part that counts the breaks of its teams on its side at its slots.
     ///
     /// # Errors
     /// Only where memory runs out.
-    fn add_breaks(
-        &mut self,
-        number: usize,
-        teams: &[u16],
-        side: Side,
-        slots: &[u16],
-    ) -> Result<(), AllocError> {
+    fn add_breaks(&mut self, number: usize, class: &Class) -> Result<(), AllocError> {
+        let side = side_of(class);
         if side != Side::A {
-            add_cells(&mut self.home_breaks, number, teams, slots)?;
+            self.add_marks(number, Mark::HomeBreak, class)?;
         }
         if side != Side::H {
-            add_cells(&mut self.away_breaks, number, teams, slots)?;
+            self.add_marks(number, Mark::AwayBreak, class)?;
+        }
+        Ok(())
+    }
+
+    /// Adds a part that counts a mark of its teams in its slots.
+    ///
+    /// # Errors
+    /// Only where memory runs out.
+    fn add_marks(&mut self, number: usize, mark: Mark, class: &Class) -> Result<(), AllocError> {
+        for team in teams_of(class) {
+            for slot in slots_of(class) {
+                add_at(&mut self.marks, place_of_mark(mark, *team, *slot), number)?;
+            }
         }
         Ok(())
     }
@@ -230,11 +192,26 @@ impl Watches {
         Ok(())
     }
 
+    /// Adds a part that counts the games of its teams against others. Games against all n teams on one side are counted
+    /// as venues.
+    ///
+    /// # Errors
+    /// Only where memory runs out.
+    fn add_games(&mut self, number: usize, n: u16, class: &Class) -> Result<(), AllocError> {
+        let side = side_of(class);
+        let opponents = opponents_in(class);
+        if side != Side::Both && opponents.len() == usize::from(n) {
+            return self.add_venues(number, class);
+        }
+        let watch = Watch::of(number, slots_of(class));
+        self.add_games_between(watch, teams_of(class), opponents, side)
+    }
+
     /// Adds a part that counts the games of some teams, on a side, against others.
     ///
     /// # Errors
     /// Only where memory runs out.
-    fn add_games(
+    fn add_games_between(
         &mut self,
         watch: Watch,
         teams: &[u16],
@@ -243,13 +220,30 @@ impl Watches {
     ) -> Result<(), AllocError> {
         for team in teams {
             for other in others {
-                if side != Side::A && team != other {
-                    self.add_meeting(watch, *team, *other)?;
-                }
-                if side != Side::H && team != other {
-                    self.add_meeting(watch, *other, *team)?;
+                if team != other {
+                    self.add_games_of(watch, *team, *other, side)?;
                 }
             }
+        }
+        Ok(())
+    }
+
+    /// Adds a part that counts the games of a team, on a side, against another.
+    ///
+    /// # Errors
+    /// Only where memory runs out.
+    fn add_games_of(
+        &mut self,
+        watch: Watch,
+        team: u16,
+        other: u16,
+        side: Side,
+    ) -> Result<(), AllocError> {
+        if side != Side::A {
+            self.add_meeting(watch, team, other)?;
+        }
+        if side != Side::H {
+            self.add_meeting(watch, other, team)?;
         }
         Ok(())
     }
@@ -283,20 +277,9 @@ impl Watches {
     }
 }
 
-/// Adds a number to the lists of these teams and slots.
-///
-/// # Errors
-/// Only where memory runs out.
-fn add_cells(
-    lists: &mut [Vec<usize>],
-    number: usize,
-    teams: &[u16],
-    slots: &[u16],
-) -> Result<(), AllocError> {
-    for team in teams {
-        for slot in slots {
-            add_at(lists, place(*team, SLOTS, *slot), number)?;
-        }
-    }
-    Ok(())
+/// The place of the list of a mark of a team in a slot.
+fn place_of_mark(mark: Mark, team: u16, slot: u16) -> usize {
+    let cell = place(team, SLOTS, slot);
+    cell.wrapping_mul(Mark::ALL.len())
+        .wrapping_add(mark.place())
 }

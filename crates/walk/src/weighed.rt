@@ -8,6 +8,7 @@ use crate::plays::Plays;
 use crate::spots::Spots;
 use crate::watches::{Mark, Watches};
 use crate::weights::{Weighing, Weight};
+use descent::Score;
 use league::{Constraint, Game, League};
 use moves::{Board, Edit};
 use rand_pcg::Pcg32;
@@ -50,8 +51,8 @@ impl Part {
 
 /// The parts of a league's constraints with their weights, those of hard constraints that aren't met, what all weigh
 /// together on the games that they follow, and how much that may be at the goal of a walk. In a walk that cools slowly
-/// the goal is that fewer parts are unmet than at the end of any stretch. A move asks only those parts that its games,
-/// venues and breaks can change.
+/// the goal is that fewer parts are unmet than at the end of any stretch. Soft constraints are weighed, too, or not. A
+/// move asks only those parts that its games, venues and breaks can change.
 #[derive(Drop)]
 pub(crate) struct WeighedParts {
     demands: Vec<Constraint>,
@@ -64,6 +65,7 @@ pub(crate) struct WeighedParts {
     sum: u64,
     goal: u64,
     fewest: Option<usize>,
+    are_soft: bool,
 }
 
 impl WeighedParts {
@@ -78,16 +80,9 @@ impl WeighedParts {
         weighing: Weighing,
     ) -> Result<WeighedParts, AllocError> {
         let n = league.n();
-        let Demands {
-            parts: demands,
-            weights,
-        } = weighed_demands(alloc, league, weighing)?;
-        let parts = parts_of(alloc, n, &demands, &weights)?;
-        let watches = Watches::new(alloc, n, &demands)?;
-        let plays = Plays::new(alloc, n)?;
-        let spots = Spots::new(alloc, &demands)?;
-        let found = NumberSet::new(alloc, demands.len())?;
-        let unmet = NumberSet::new(alloc, demands.len())?;
+        let (demands, parts) = listed_parts(alloc, league, weighing)?;
+        let (watches, spots) = lists_of(alloc, n, &demands)?;
+        let (plays, found, unmet) = room_for(alloc, n, demands.len())?;
         Ok(WeighedParts {
             demands,
             parts,
@@ -98,12 +93,24 @@ impl WeighedParts {
             unmet,
             sum: 0,
             goal: u64::MAX,
-            fewest: if weighing.is_slow() {
-                Some(usize::MAX)
-            } else {
-                None
-            },
+            fewest: weighing.fewest(),
+            are_soft: weighing.is_of_soft(),
         })
+    }
+
+    /// The parts of a league's constraints that are weighed, counted on the games of a board.
+    ///
+    /// # Errors
+    /// Only where memory runs out.
+    pub(crate) fn on(
+        alloc: Global,
+        league: &League,
+        weighing: Weighing,
+        board: &Board,
+    ) -> Result<WeighedParts, AllocError> {
+        let mut parts = WeighedParts::new(alloc, league, weighing)?;
+        parts.count(board);
+        Ok(parts)
     }
 
     /// Counts all parts on the games of a board.
@@ -244,21 +251,13 @@ impl WeighedParts {
     fn weigh(&mut self, most: u64) -> Option<u64> {
         let mut sum = self.sum;
         for number in self.found.numbers() {
-            if let Some(part) = self.parts.get_mut(*number)
-                && part.deviation > 0
-            {
-                sum = part.changed(sum, &self.plays);
-            }
+            sum = changed(&mut self.parts, *number, false, sum, &self.plays);
         }
         for number in self.found.numbers() {
             if sum > most {
                 return None;
             }
-            if let Some(part) = self.parts.get_mut(*number)
-                && part.deviation == 0
-            {
-                sum = part.changed(sum, &self.plays);
-            }
+            sum = changed(&mut self.parts, *number, true, sum, &self.plays);
         }
         if sum > most { None } else { Some(sum) }
     }
@@ -323,8 +322,22 @@ impl WeighedParts {
         self.sum
     }
 
+    /// What the constraints cost as far as it is known: the hard ones by their penalties, and the soft ones what all
+    /// parts weigh, where they are weighed.
+    pub(crate) fn score(&self) -> Score {
+        let objective = if self.are_soft {
+            u128::from(self.sum)
+        } else {
+            u128::MAX
+        };
+        Score {
+            infeasibility: self.price(),
+            objective,
+        }
+    }
+
     /// What the parts of hard constraints cost by their penalties.
-    pub(crate) fn price(&self) -> u128 {
+    fn price(&self) -> u128 {
         let mut sum = 0u128;
         for part in &self.parts {
             sum = sum.saturating_add(part.weight.price(part.deviation));
@@ -347,6 +360,50 @@ impl WeighedParts {
         let number = any_of(random, self.unmet.numbers())?;
         self.demands.get(number)
     }
+}
+
+/// What the parts of a league's constraints demand that are weighed, and these parts.
+///
+/// # Errors
+/// Only where memory runs out.
+fn listed_parts(
+    alloc: Global,
+    league: &League,
+    weighing: Weighing,
+) -> Result<(Vec<Constraint>, Vec<Part>), AllocError> {
+    let Demands {
+        parts: demands,
+        weights,
+    } = weighed_demands(alloc, league, weighing)?;
+    let parts = parts_of(alloc, league.n(), &demands, &weights)?;
+    Ok((demands, parts))
+}
+
+/// Which of these parts watch each game, and which of them it can change.
+///
+/// # Errors
+/// Only where memory runs out.
+fn lists_of(alloc: Global, n: u16, demands: &[Constraint]) -> Result<(Watches, Spots), AllocError> {
+    Ok((
+        Watches::new(alloc, n, demands)?,
+        Spots::new(alloc, demands)?,
+    ))
+}
+
+/// No games yet of a league of n teams, and room for two sets of its parts.
+///
+/// # Errors
+/// Only where memory runs out.
+fn room_for(
+    alloc: Global,
+    n: u16,
+    parts: usize,
+) -> Result<(Plays, NumberSet, NumberSet), AllocError> {
+    Ok((
+        Plays::new(alloc, n)?,
+        NumberSet::new(alloc, parts)?,
+        NumberSet::new(alloc, parts)?,
+    ))
 }
 
 /// Parts that measure what these constraints demand, with their weights.
@@ -382,6 +439,15 @@ fn change(parts: &mut [Part], found: &mut NumberSet, number: usize, more: bool) 
         } else {
             part.change.wrapping_sub(1)
         };
+    }
+}
+
+/// A sum of weights that has a part's, where the part changes as it would after the move: of those that are met, or of
+/// those that aren't.
+fn changed(parts: &mut [Part], number: usize, met: bool, sum: u64, plays: &Plays) -> u64 {
+    match parts.get_mut(number) {
+        Some(part) if (part.deviation == 0) == met => part.changed(sum, plays),
+        _ => sum,
     }
 }
 

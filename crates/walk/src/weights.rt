@@ -22,9 +22,17 @@ impl Weighing {
     /// All constraints together, where no soft one makes up for a hard one.
     pub(crate) const STRICT: Weighing = Weighing::Together(u32::MAX);
 
-    /// Whether weights grow slowly and fall far more slowly.
-    pub(crate) fn is_slow(self) -> bool {
-        matches!(self, Weighing::Slow(_))
+    /// More unmet parts than there are, where the goal of a walk is fewer than before: in one that cools slowly.
+    pub(crate) fn fewest(self) -> Option<usize> {
+        match self {
+            Weighing::Slow(_) => Some(usize::MAX),
+            Weighing::Hard | Weighing::Together(_) => None,
+        }
+    }
+
+    /// Whether soft constraints are weighed, too.
+    pub(crate) fn is_of_soft(self) -> bool {
+        matches!(self, Weighing::Together(_))
     }
 
     /// The weight at the start of a constraint's parts, if they are weighed.

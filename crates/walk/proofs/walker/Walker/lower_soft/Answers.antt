@@ -74,4 +74,4 @@ soften-requires-clause-counts g c =
 pub returns-clause-no_worse : goal.returns-clause-no_worse
 returns-clause-no_worse g c =
     IsNoWorse-both c.soften.new.self.best.score c.keep.new.self.score c.args.self.now.best.score
-    c.soften.ensures.no_worse c.keep.ensures.no_worse
+    c.in_ok-soften.ensures.no_worse c.keep.ensures.no_worse

@@ -1,7 +1,7 @@
 use Rattle.std.specs.Prelude.{◌≤◌}
 use Rattle.descent.specs.Score.{IsNoWorse}
 use Rattle.walk.specs.Standing.{IsWalkerIn}
-use Rattle.walk.proofs.walker.Walker.cool.Given as goal
+use Rattle.walk.proofs.walker.Walker.walk_on_parts.Given as goal
 
 -- the walk goes on, and its best games aren't worse than at the start
 abbrev pub invariant-stretches : goal.invariant-stretches

@@ -3,7 +3,7 @@ use Rattle.rule_core.specs.Table.{table_counts}
 use Rattle.moves.specs.Round.{round_counts}
 use Rattle.descent.specs.Score.{IsNoWorse}
 use Rattle.walk.specs.Standing.{HasKeptHere, IsWalkerIn}
-use Rattle.walk.proofs.walker.Walker.soften.Given as goal
+use Rattle.walk.proofs.walker.Walker.soften_parts.Given as goal
 
 -- the walk goes on with the tally of its games, and its best games aren't worse than these, nor than at the start
 abbrev pub invariant-stretches : goal.invariant-stretches

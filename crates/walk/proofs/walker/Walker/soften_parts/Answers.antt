@@ -4,7 +4,7 @@ use Rattle.moves.specs.Round.{round_counts}
 use Rattle.descent.proofs.ScoreLemmas.{IsNoWorse-itself}
 use Rattle.walk.specs.Walked.{league_score}
 use Rattle.walk.proofs.WalkLemmas.{IsNoWorse-both, kept-at, no_worse-by, no_worse-of, scores-at, standing-at, walker-in}
-use Rattle.walk.proofs.walker.Walker.soften.Goals as goal
+use Rattle.walk.proofs.walker.Walker.soften_parts.Goals as goal
 
 pub stretches-init : goal.stretches-init
 stretches-init g c = record {
@@ -48,16 +48,16 @@ tell-requires g c =
     c.stretches.invariant.weights) c.improve-tried.ensures.standing c.stretches.invariant.walker.room
     c.improve-tried.ensures.best
 
-pub returns-then-self-eq0-clause-walker : goal.returns-then-self-eq0-clause-walker
-returns-then-self-eq0-clause-walker g c =
+pub returns-then-objective-eq0-clause-walker : goal.returns-then-objective-eq0-clause-walker
+returns-then-objective-eq0-clause-walker g c =
     walker-in c.args.league.now c.stretches.tally.table.n c.stretches.self.standing.board.phased _ _
     (c.stretches.invariant.teams ∙ c.requires.teams) c.stretches.invariant.walker.standing.phases
     (scores-at _ c.args.league.now c.args.tally.now.weights c.stretches.tally.weights c.requires.rules
     c.stretches.invariant.weights) c.improve-tried.ensures.standing c.stretches.invariant.walker.room
     c.improve-tried.ensures.best
 
-pub returns-then-self-eq0-clause-seen : goal.returns-then-self-eq0-clause-seen
-returns-then-self-eq0-clause-seen g c =
+pub returns-then-objective-eq0-clause-seen : goal.returns-then-objective-eq0-clause-seen
+returns-then-objective-eq0-clause-seen g c =
     no_worse-of _ c.args.league.now c.args.tally.now.weights c.stretches.tally.weights c.improve-tried.new.best.score
     (table_counts c.improve-tried.new.tally.table) (round_counts c.improve-tried.new.self.board) c.requires.rules
     c.stretches.invariant.weights c.improve-tried.ensures.counts c.improve-tried.ensures.seen
