@@ -191,7 +191,7 @@ fn solve_option(word: &str) -> Option<Role>
     }
 }
 
-/// The same of an option that is none of these three.
+/// What the value of `--patterns`, `--seed` or `--seconds` is to be.
 fn later_option(word: &str) -> Option<Role>
     ensures { result ≡ later.later_option word.now }
 {
