@@ -6,7 +6,7 @@
 //! - `weigh MOVE` shows what a tally keeps before a move, what it weighs, what it keeps after the move, and after it was
 //!   taken back. `moves` says of each legal move whether a tally weighs and keeps what a fresh count of the season gives.
 //! - `descend N` goes down by at most N moves, each of which keeps the two phases.
-mod boards;
+pub mod boards;
 mod counting;
 mod swaps;
 mod tallied;

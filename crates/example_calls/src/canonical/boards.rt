@@ -33,20 +33,19 @@ pub fn show(
 fn show_move(rt: &impl Print, board: &Board, step: &Swap, edit: &mut Edit) -> io::Result<()>
     requires { edit.old.n ≡ board.now.n }
 {
-    let is_legal = find_edit(board, step, edit);
-    println!(rt; "  {}", if is_legal { "legal" } else { "not legal" })?;
-    if !is_legal {
-        return Ok(());
+    if !find_edit(board, step, edit) {
+        return println!(rt; "  not legal");
     }
-    show_games(rt, "out", edit.out())?;
-    show_games(rt, "into", edit.into_games())
+    println!(rt; "  legal")?;
+    show_games(rt, "  out ", edit.out())?;
+    show_games(rt, "  into ", edit.into_games())
 }
 
-/// Shows a list of games, each by home team, away team and slot.
-fn show_games(rt: &impl Print, list: &str, games: &[Game]) -> io::Result<()> {
+/// Shows games, each behind a front by home team, away team and slot.
+pub fn show_games(rt: &impl Print, front: &str, games: &[Game]) -> io::Result<()> {
     for game in games {
         let (home, away, slot) = (game.home.0, game.away.0, game.slot.0);
-        println!(rt; "  {list} {home} {away} {slot}")?;
+        println!(rt; "{front}{home} {away} {slot}")?;
     }
     Ok(())
 }

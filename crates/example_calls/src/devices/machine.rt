@@ -54,8 +54,13 @@ fn show_kept(rt: &(impl AllocGlobal + Files + Print), name: &str) -> io::Result<
 fn show_writers(rt: &(impl AllocGlobal + Print)) -> io::Result<()> {
     let mut bytes = Vec::new(rt.alloc());
     let done = outcome(put_all(&mut HostSink::new(&mut bytes), TEXT));
-    println!(rt; "a writer that takes all: {done}: {}", words_of(&bytes))?;
+    tell_written(rt, "that takes all", done, &bytes)?;
     let mut room = [0u8; 7];
     let done = outcome(put_all(&mut HostSink::new(room.as_mut_slice()), TEXT));
-    println!(rt; "a writer of 7 bytes: {done}: {}", words_of(&room))
+    tell_written(rt, "of 7 bytes", done, &room)
+}
+
+/// Tells what a writer has after a put.
+fn tell_written(rt: &impl Print, which: &str, done: &str, bytes: &[u8]) -> io::Result<()> {
+    println!(rt; "a writer {which}: {done}: {}", words_of(bytes))
 }

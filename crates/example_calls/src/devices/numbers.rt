@@ -1,14 +1,13 @@
 //! Decimal numbers, read and written.
 use crate::devices::telling::words_of;
-use robin_io::{NumberFault, decimal, put_decimal};
+use robin_io::{decimal, put_decimal};
 use std::io;
 
 /// Reads a number.
 pub fn show_read(rt: &impl Print, text: &str) -> io::Result<()> {
     match decimal(text.as_bytes()) {
         Ok(number) => println!(rt; "{number}"),
-        Err(NumberFault::Bad) => println!(rt; "Bad"),
-        Err(NumberFault::TooLarge) => println!(rt; "TooLarge"),
+        Err(fault) => println!(rt; "{fault:?}"),
     }
 }
 

@@ -24,18 +24,14 @@ pub fn show(rt: &(impl AllocGlobal + Print), bytes: &[u8]) -> io::Result<()> {
 
 /// Shows a fault, and where another is said then.
 fn show_twice(rt: &impl Print, fault: TagFault, again: Option<TagFault>) -> io::Result<()> {
+    let end = match &again {
+        Some(other) if *other == fault => "",
+        _ => ", and then not",
+    };
     match &fault {
-        TagFault::Form { kind, line } => print!(rt; "{kind:?} {line}")?,
-        TagFault::Mem => print!(rt; "out of memory")?,
+        TagFault::Form { kind, line } => println!(rt; "{kind:?} {line}{end}"),
+        TagFault::Mem => println!(rt; "out of memory{end}"),
     }
-    println!(rt;
-        "{}",
-        if again == Some(fault) {
-            ""
-        } else {
-            ", and then not"
-        }
-    )
 }
 
 /// Shows a piece as its line, its kind and its name or text, and its attributes.
@@ -47,10 +43,16 @@ fn show_tag(rt: &impl Print, tag: &Tag) -> io::Result<()> {
         TagKind::Text => return print!(rt; "{}:{:?}|", tag.line, words_of(tag.text)),
     };
     print!(rt; "{}:{sign}{}", tag.line, words_of(name))?;
-    for attr in tag.attrs.as_slice() {
+    show_attrs(rt, tag.attrs.as_slice())?;
+    print!(rt; "|")
+}
+
+/// Shows attributes.
+fn show_attrs(rt: &impl Print, attrs: &[Attr]) -> io::Result<()> {
+    for attr in attrs {
         print!(rt; " {}={}", words_of(attr.name), words_of(attr.value))?;
     }
-    print!(rt; "|")
+    Ok(())
 }
 
 /// Shows an attribute of the first tag of a text, or the one that has neither name nor value where there is no tag.

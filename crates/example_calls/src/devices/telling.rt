@@ -46,9 +46,8 @@ fn add(text: &mut Vec<u8>, words: &str) -> Result<(), AllocError> {
 pub fn tell_reading(rt: &impl Print, read: &Result<Vec<u8>, TakeFault>) -> io::Result<()> {
     match read {
         Ok(bytes) => println!(rt; "'{}'", words_of(bytes)),
-        Err(TakeFault::Failed) => println!(rt; "Failed"),
         Err(TakeFault::TooLong { limit }) => println!(rt; "TooLong {limit}"),
-        Err(TakeFault::Mem) => println!(rt; "Mem"),
+        Err(fault) => println!(rt; "{fault:?}"),
     }
 }
 

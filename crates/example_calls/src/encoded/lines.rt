@@ -39,23 +39,25 @@ fn show_sum(
 ) -> io::Result<()> {
     let mut sign = "";
     for term in terms {
-        print!(rt; "{sign}")?;
-        show_term(rt, encoding, term)?;
+        show_term(rt, encoding, sign, term)?;
         sign = " + ";
     }
     Ok(())
 }
 
-/// Shows a literal with its coefficient, if that isn't 1.
-fn show_term(rt: &(impl AllocGlobal + Print), encoding: &Encoding, term: &Term) -> io::Result<()> {
-    let coef = term.coef;
-    if coef != 1 {
-        print!(rt; "{coef} ")?;
+/// Shows a sign, and a literal with its coefficient, if that isn't 1.
+fn show_term(
+    rt: &(impl AllocGlobal + Print),
+    encoding: &Encoding,
+    sign: &str,
+    term: &Term,
+) -> io::Result<()> {
+    let name = name_of(rt.alloc(), encoding, term.lit.var())?;
+    let not = if term.lit.positive() { "" } else { "not " };
+    match term.coef {
+        1 => print!(rt; "{sign}{not}{name}"),
+        coef => print!(rt; "{sign}{coef} {not}{name}"),
     }
-    if !term.lit.positive() {
-        print!(rt; "not ")?;
-    }
-    show_name(rt, encoding, term.lit.var())
 }
 
 /// Shows a variable and its name.
@@ -64,15 +66,8 @@ pub fn show_variable(
     encoding: &Encoding,
     var: u32,
 ) -> io::Result<()> {
-    print!(rt; "variable {var}: ")?;
-    show_name(rt, encoding, var)?;
-    println!(rt; "")
-}
-
-/// Shows the name of a variable.
-fn show_name(rt: &(impl AllocGlobal + Print), encoding: &Encoding, var: u32) -> io::Result<()> {
     let name = name_of(rt.alloc(), encoding, var)?;
-    print!(rt; "{name}")
+    println!(rt; "variable {var}: {name}")
 }
 
 /// The name of a variable.

@@ -4,6 +4,7 @@ ghost use Rattle.std.specs.List.{All};
 ghost use Rattle.league.specs.Instance.{IsGame};
 ghost use Rattle.encoding.specs.Variables.{var_count};
 
+use crate::canonical::boards::show_games;
 use crate::encoded::lines::show_variable;
 use crate::leagues::bytes_of;
 use anyhow::Result;
@@ -30,7 +31,8 @@ pub fn show(
     }
     let file = what.strip_prefix("games of ").unwrap_or("nothing");
     let values = values_of(rt, league, encoding, file)?;
-    Ok(show_games(rt, &decode(rt.alloc(), encoding, &values)?)?)
+    let season = decode(rt.alloc(), encoding, &values)?;
+    Ok(show_games(rt, "", season.games())?)
 }
 
 /// The shadow of the season of a file, or nothing true.
@@ -56,15 +58,6 @@ fn season_of(rt: &(impl AllocGlobal + Files), league: &League, file: &str) -> Re
 {
     let bytes = bytes_of(rt, file)?;
     Ok(read_solution(rt.alloc(), &bytes, league)?)
-}
-
-/// Shows games, one a line.
-fn show_games(rt: &impl Print, season: &Schedule) -> io::Result<()> {
-    for game in season.games() {
-        let (home, away, slot) = (game.home.0, game.away.0, game.slot.0);
-        println!(rt; "{home} {away} {slot}")?;
-    }
-    Ok(())
 }
 
 /// Shows the variables of breaks that are true.
