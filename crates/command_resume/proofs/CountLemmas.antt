@@ -1,6 +1,6 @@
 -- Leagues that are counted out, answered.
-use Rattle.std.proofs.Common.{◌≡◌, ℕ, ◌≤◌, Bool, true, false, List, get_or, Option, Some, Result, Ok, Err, inl, refl, subst, sym}
-use Rattle.std.specs.Prelude.{◌↔◌, IfOk, IsSome}
+use Rattle.std.proofs.Common.{◌≡◌, ℕ, ◌≤◌, Bool, true, false, List, get_or, Option, Some, None, Result, Ok, Err, inl, refl, subst, sym}
+use Rattle.std.specs.Prelude.{◌↔◌, IfOk, IfSome, IsSome}
 use Rattle.std.specs.List.{All}
 use Rattle.league.specs.Counts.{counts_of}
 use Rattle.league.specs.Instance.{Instance, IsInstance}
@@ -21,10 +21,12 @@ use Rattle.clause_search.specs.Answers.{Refutes}
 use Rattle.clause_search.proofs.LineLemmas.{step_named, step_short}
 use Rattle.pattern_search.proofs.LogLemmas.{refuted-clauses}
 use Rattle.break_counts.specs.BreakCounts.{are_few}
-use Rattle.break_counts.proofs.FewLaws.{few-none}
+use Rattle.break_counts.specs.Sums.{AllowsTooFew}
 use Rattle.break_counts.proofs.SearchLemmas.{few-unsatisfied}
+use Rattle.break_counts.proofs.SumLaws.{too_few-none}
 use Rattle.resume_rows.specs.Kept.{kept_rows, resume_rows}
 use Rattle.resume_rows.specs.Resumable.{NoneResumes}
+use Rattle.resume_rows.specs.Systems.{PartlyPlayed}
 use Rattle.command_resume.specs.Counted.{CountsOut, RefutesSeason}
 use Rattle.command_resume.specs.Near.{IsNearBy}
 use Rattle.command_resume.specs.Resumed.{IsCountedOut, IsFoundBy}
@@ -61,12 +63,22 @@ few-unresumed league played k values instance few meets =
     (both_satisfied values (rows_of league) (kept_rows league.n (counts_of played) k)
     (all_satisfied-true values (resume_rows league (counts_of played) k) meets)).0)
 
+-- a log over resume rows, of a league that allows too few breaks
+pub counts-season : (league : Instance) (played : List Game) (k : ℕ) (s : PartlyPlayed) (found : Option (List Step))
+    → AllowsTooFew league → s ≡ record { league = league; played = played; k = k }
+    → IfSome found (RefutesSeason s.league s.played s.k) → IfSome found (CountsOut league played k)
+counts-season league played k s None few is refutes = tt
+counts-season league played k s (Some log) few is refutes = record {
+  few = few;
+  refutes = subst (λ (p : PartlyPlayed). RefutesSeason p.league p.played p.k log) is refutes;
+}
+
 -- ---- answers
 
-few-excluded : (league : Instance) (played : List Game) (k : ℕ) → IsInstance league → are_few league ≡ true
+few-excluded : (league : Instance) (played : List Game) (k : ℕ) → IsInstance league → AllowsTooFew league
     → NoneResumes league (counts_of played) k
 few-excluded league played k instance few games resumes =
-    few-none league (counts_of games) instance few resumes.accepted
+    too_few-none league (counts_of games) instance few resumes.accepted
 
 -- the league is counted out
 pub counted-out : (league : Instance) (played : List Game) (k : ℕ) (steps : List Step) (answer : Answer)

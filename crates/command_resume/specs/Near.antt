@@ -68,8 +68,9 @@ pub record IsNear (league : Instance) (played : List Game) (k : ℕ) (conflicts 
       ⊎ (IsExcluded league played k conflicts answer ⊎ IsBudgetSpent league played k conflicts answer)
   pub plan : IsAccepted league (counts_of played) → IsUnchanged league played k answer
 
--- The league is counted out, whatever the limits; or it allows its teams enough breaks, and this is found near the old
--- plan, by a search that keeps to one of the limits, in a run that may be stopped where `may_stop` says so.
+-- The league is counted out, whatever the limits; or each of its hard constraints allows its teams enough breaks, and
+-- this is found near the old plan, by a search that keeps to one of the limits, in a run that may be stopped where
+-- `may_stop` says so.
 abbrev pub IsNearBy : Instance → List Game → ℕ → (Option ℕ → Type 0) → Type 0 → Outcome
 IsNearBy league played k limits may_stop answer =
     IsCountedOut league played k answer

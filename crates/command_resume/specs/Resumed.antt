@@ -20,6 +20,7 @@ use Rattle.refutation.specs.Texts.{log_text}
 use Rattle.refutation.specs.Verdict.{verdict_of}
 use Rattle.refutation.specs.declared.verdict.Verdict.TheVariants.{Accepted}
 use Rattle.break_counts.specs.BreakCounts.{are_few}
+use Rattle.break_counts.specs.Sums.{AllowsTooFew}
 use Rattle.clause_search.specs.Answers.{IsSpentAt}
 use Rattle.resume_rows.specs.Kept.{resume_rows}
 use Rattle.resume_rows.specs.Resumable.{NoneResumes}
@@ -74,10 +75,11 @@ pub record IsFound (league : Instance) (played : List Game) (k : ℕ) (conflicts
       ⊎ (IsExcluded league played k conflicts answer ⊎ IsBudgetSpent league played k conflicts answer)
   pub plan : IsAccepted league (counts_of played) → IsOldPlan league played answer
 
--- A league that allows its teams too few breaks is counted out, whatever is played: a log that is accepted over the
--- resume rows is written, and reads back as it. So no schedule that the league accepts keeps the played games.
+-- A league that allows its teams too few breaks, by one hard constraint or by some together, is counted out, whatever is
+-- played: a log that is accepted over the resume rows is written, and reads back as it. So no schedule that the league
+-- accepts keeps the played games.
 pub record IsCountedOut (league : Instance) (played : List Game) (k : ℕ) (answer : Answer) : Type 0 where
-  pub few : are_few league ≡ true
+  pub few : AllowsTooFew league
   pub steps : List Step
   pub accepted : verdict_of (resume_rows league (counts_of played) k) (var_count league) steps ≡ Accepted
   pub none : NoneResumes league (counts_of played) k
@@ -85,8 +87,8 @@ pub record IsCountedOut (league : Instance) (played : List Game) (k : ℕ) (answ
   pub text : answer.text ≡ log_text steps
   pub reads_back : log_of answer.text ≡ Ok steps
 
--- The league is counted out, whatever the limits; or it allows its teams enough breaks, and this is found, by a search
--- that keeps to one of the limits.
+-- The league is counted out, whatever the limits; or each of its hard constraints allows its teams enough breaks, and
+-- this is found, by a search that keeps to one of the limits.
 abbrev pub IsFoundBy : Instance → List Game → ℕ → (Option ℕ → Type 0) → Outcome
 IsFoundBy league played k limits answer =
     IsCountedOut league played k answer

@@ -23,6 +23,7 @@ use Rattle.pattern_search.specs.PatternSets.{IsPatternSet}
 use Rattle.pattern_search.proofs.NewsLemmas.{pattern_news-clauses}
 use Rattle.venue_counts.specs.CountLogs.{IsRefuting}
 use Rattle.break_counts.specs.BreakCounts.{are_few}
+use Rattle.break_counts.specs.Sums.{AllowsTooFew}
 use Rattle.solve.proofs.CountingLemmas.{refuted_by}
 use Rattle.command_solve.specs.Patterns.{AreFound, AreSearched, patterns_text}
 
@@ -86,7 +87,7 @@ pub some-told : (found : Option (List Step)) (first : List Step) (told : Bool) �
 some-told found first told is tells = tells.0 (subst (λ (o : Option (List Step)). IsSome o) (sym is) refl)
 
 pub replied-counted : {E : Type 0} (league : Instance) (conflicts : Option ℕ) (steps : List Step)
-    (result : Result Reply E) → IsInstance league → are_few league ≡ true → IsRefuting league steps
+    (result : Result Reply E) → IsInstance league → AllowsTooFew league → IsRefuting league steps
     → IfOk result (λ reply. (answer_of reply).status ≡ Refuted)
     → IfOk result (λ reply. (answer_of reply).text ≡ log_text steps)
     → IfOk result (λ reply. log_of (answer_of reply).text ≡ Ok steps)

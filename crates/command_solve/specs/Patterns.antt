@@ -1,5 +1,5 @@
 -- What `patterns` answers: its stages in their order, and what is found of a league's patterns.
-use Rattle.std.specs.Prelude.{◌≡◌, ℕ, ◌+◌, ◌⊎◌, true, false, List, [], ◌∷◌, ◌++◌, codes, decimal, Option, Ok}
+use Rattle.std.specs.Prelude.{◌≡◌, ℕ, ◌+◌, ◌⊎◌, false, List, [], ◌∷◌, ◌++◌, codes, decimal, Option, Ok}
 use Rattle.std.specs.List.{flat_map}
 use Rattle.robin_io.specs.Outside.{Store}
 use Rattle.league.specs.Instance.{Instance}
@@ -16,6 +16,7 @@ use Rattle.refutation.specs.Steps.{Step}
 use Rattle.refutation.specs.Logs.{log_of}
 use Rattle.refutation.specs.Texts.{log_text}
 use Rattle.break_counts.specs.BreakCounts.{are_few}
+use Rattle.break_counts.specs.Sums.{AllowsTooFew}
 use Rattle.command_check.specs.Check.{encodes}
 use Rattle.pattern_search.specs.PatternLogs.{IsPatternSpent, RefutesPatterns}
 use Rattle.pattern_search.specs.PatternSets.{IsPatternSet}
@@ -72,10 +73,11 @@ AreSearched league conflicts answer =
     ArePatterns league answer ⊎ (IsRefuted league conflicts answer ⊎ IsBudgetSpent league conflicts answer)
 
 -- What is found of a league's patterns: where it allows its teams too few breaks, a log that refutes it, whatever the
--- budget, since no season has its patterns; and else what the search finds.
+-- budget, since no season has its patterns; and else what the search finds. Where one hard constraint allows too few,
+-- there is such a log.
 abbrev pub AreFound : Instance → Option ℕ → Outcome
 AreFound league conflicts answer =
-    ((are_few league ≡ true) × solves.IsRefuted league (rows_of league) answer)
+    (AllowsTooFew league × solves.IsRefuted league (rows_of league) answer)
     ⊎ ((are_few league ≡ false) × AreSearched league conflicts answer)
 
 -- ---- stages

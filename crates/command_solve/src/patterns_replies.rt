@@ -9,13 +9,14 @@ ghost use Rattle.refutation.specs.Steps.{is_linear};
 ghost use Rattle.refutation.specs.Texts as logs;
 ghost use Rattle.encoding.specs.Limit.{most_terms};
 ghost use Rattle.encoding_base.specs.Encoding.{encoding_size};
+ghost use Rattle.break_counts.specs.BreakCounts.{are_few};
 ghost use Rattle.command_solve.specs.Patterns as texts;
 ghost use Rattle.command_solve.specs.Patterns.{AreFound, AreSearched};
 
 use crate::pattern_lines::patterns_text;
 use crate::solve_replies;
 use answers::{Reply, Status};
-use break_counts::break_count;
+use break_counts::{break_count, break_sum};
 use clause_search::tidy_text;
 use encoding::Encoding;
 use league::League;
@@ -48,7 +49,8 @@ fn log_reply(alloc: Global, status: Status, log: &Log) -> Result<Reply, AllocErr
     Ok(Reply { status, text })
 }
 
-/// What is found of a league's patterns: where it allows its teams too few breaks, a log that counts them.
+/// What is found of a league's patterns: where one hard constraint allows its teams too few breaks, a log that counts
+/// them.
 pub(crate) fn found_reply(
     alloc: Global,
     league: &League,
@@ -62,6 +64,26 @@ pub(crate) fn found_reply(
     let counted = break_count(alloc, league)?;
     match counted {
         Some(log) => solve_replies::log_reply(alloc, Status::Refuted, &log),
+        None => added_reply(alloc, league, encoding, conflicts),
+    }
+}
+
+/// What is found of the patterns of a league each of whose hard constraints allows enough breaks: where some allow too
+/// few together, a log that counts them.
+fn added_reply(
+    alloc: Global,
+    league: &League,
+    encoding: &Encoding,
+    conflicts: Option<u64>,
+) -> Result<Reply, AllocError>
+    requires same { encoding.now ≡ league.now }
+    requires small { encoding_size league.now ≤ most_terms }
+    requires enough { are_few league.now ≡ false }
+    ensures { IfOk result (λ reply. AreFound league.now conflicts (answer_of reply)) }
+{
+    let added = break_sum(alloc, league)?;
+    match added {
+        Some(sum) => solve_replies::log_reply(alloc, Status::Refuted, &sum),
         None => searched_reply(alloc, encoding, conflicts),
     }
 }

@@ -1,4 +1,4 @@
-use Rattle.std.proofs.Common.{◌≡◌, Bool, true, subst, sym}
+use Rattle.std.proofs.Common.{◌≡◌, Bool, true, inl, subst, sym}
 use Rattle.break_counts.specs.BreakCounts.{are_few}
 use Rattle.resume_rows.specs.Systems.{PartlyPlayed}
 use Rattle.command_resume.specs.Counted.{RefutesSeason}
@@ -13,8 +13,8 @@ refuting-requires c =
 
 pub returns-clause-counted : goal.returns-clause-counted
 returns-clause-counted c = record {
-  few = some-told c.in_ok-counted.counted c.in-Some.first (are_few c.args.league.now) c.in-Some.is
-      c.in_ok-counted.ensures.few;
+  few = inl (some-told c.in_ok-counted.counted c.in-Some.first (are_few c.args.league.now) c.in-Some.is
+      c.in_ok-counted.ensures.few);
   refutes = subst (λ (s : PartlyPlayed). RefutesSeason s.league s.played s.k c.in_ok-log.log) c.in_ok-system.ensures
       c.in_ok-log.ensures;
 }
