@@ -19,6 +19,6 @@ abbrev pub count_divided : ℤ → ℤ → ℤ
 count_divided divisor count =
     if int_lt count (pos 0) then minus (pos (divided_up (minus count) divisor)) else pos (divided_up count divisor)
 
--- the same at the variable of a literal
+-- what variables count, with that of one literal divided so
 abbrev pub counts_divided : ℤ → List ℤ → Literal → List ℤ
 counts_divided divisor counts l = slice_set counts l.var (count_divided divisor (slice_index_or counts l.var (pos 0)))

@@ -19,7 +19,7 @@ abbrev pub free_of : ℤ → Option Bool → ℕ
 free_of count None = size_of count
 free_of count (Some _) = 0
 
--- the same at the end of a level
+-- what isn't false of a literal and its negation at the end of a level, and what is free of them there
 unfoldable pub not_false_at : List ℤ → Trail → ℕ → Literal → ℕ
 not_false_at counts trail level l = not_false_of (coef_of counts l) (side_at level (standing_of trail l))
 
