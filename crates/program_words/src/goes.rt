@@ -6,7 +6,7 @@ use answers::Status;
 use command_line::Topic;
 
 /// Where a text goes.
-#[derive(Clone, Copy, Debug, PartialEq, Eq)]
+#[derive(Clone, Copy)]
 pub enum Goes {
     /// Into the file of `--out`: it is what was asked for.
     Out,

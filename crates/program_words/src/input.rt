@@ -11,7 +11,7 @@ use std::alloc::{AllocError, Global};
 const INPUT: &str = "/dev/stdin";
 
 /// What a word behind a command is.
-#[derive(Clone, Copy, Debug, PartialEq, Eq)]
+#[derive(Clone, Copy)]
 enum Place {
     /// An option, or an argument, before which so many stand.
     Argument(u64),
