@@ -5,6 +5,8 @@
 pub mod GiveLemmas
 -- Rows that are copied, added up and narrowed:
 pub mod SumLemmas
+-- Of what the balance of a slot is the sum:
+pub mod BalanceLemmas
 -- What is found, said of the league:
 pub mod FoundLemmas
 -- Worked examples, so that a wrong definition does not check:

@@ -1,12 +1,21 @@
 //! The sums that give rows of breaks.
-ghost use Rattle.std.specs.Prelude.{◌≤◌};
+ghost use Rattle.std.specs.Prelude.{◌≡◌, ◌≤◌, IfOk};
 ghost use Rattle.std.specs.List.{All};
+ghost use Rattle.league_search.specs.Balances as balances;
 
 use break_counts::{Frame, Writer};
 use encoding::Encoding;
 use league::{Class, Constraint};
 use refutation::{Log, Part};
 use std::alloc::{AllocError, Global};
+
+/// How a team's venue at a slot goes with that in the slot before, on a side.
+#[derive(Clone, Copy)]
+struct Change {
+    team: u16,
+    slot: u16,
+    home: bool,
+}
 
 /// The numbers of two rows of each slot but the first, from the last slot on: at least as many home breaks as away breaks,
 /// and at least as many away breaks.
@@ -93,9 +102,42 @@ fn add_balance(
     slot: u16,
     home: bool,
 ) -> Result<u64, AllocError> {
+    let changes = changes_at(alloc, frame.n, slot, home)?;
+    add_changes(alloc, writer, frame, &changes, slot, home)
+}
+
+/// The changes of all teams at a slot, on a side.
+///
+/// # Errors
+/// Only where memory runs out.
+fn changes_at(alloc: Global, n: u16, slot: u16, home: bool) -> Result<Vec<Change>, AllocError>
+    ensures { IfOk result (λ changes. changes.items ≡ balances.changes_at n slot home) }
+{
+    let mut changes = Vec::new(alloc);
+    for team in 0..n {
+        changes.push(Change { team, slot, home })?;
+    }
+    Ok(changes)
+}
+
+/// Adds the changes of all teams at a slot, on a side, and their sum with the rows of the slot and of the slot before, and
+/// gives the number of that row.
+///
+/// # Errors
+/// Only where memory runs out.
+fn add_changes(
+    alloc: Global,
+    writer: &mut Writer,
+    frame: Frame,
+    changes: &[Change],
+    slot: u16,
+    home: bool,
+) -> Result<u64, AllocError>
+    requires { changes.now ≡ balances.changes_at frame.n slot home }
+{
     let mut rows = Vec::new(alloc);
-    for team in 0..frame.n {
-        let number = add_change(alloc, writer, frame, team, slot, home)?;
+    for change in changes {
+        let number = add_change(alloc, writer, frame, *change)?;
         rows.push(number)?;
     }
     rows.push(slot_row(frame, slot.saturating_sub(1), home))?;
@@ -112,12 +154,10 @@ fn add_change(
     alloc: Global,
     writer: &mut Writer,
     frame: Frame,
-    team: u16,
-    slot: u16,
-    home: bool,
+    change: Change,
 ) -> Result<u64, AllocError> {
-    let third = frame.home_break(team, slot);
-    let rows = if home {
+    let third = frame.home_break(change.team, change.slot);
+    let rows = if change.home {
         [third, third + 1, third + 2]
     } else {
         [third + 3, third.saturating_sub(2), third.saturating_sub(1)]
