@@ -205,11 +205,7 @@ fn add_candidates(
 ///
 /// # Errors
 /// Only where memory runs out.
-fn apart(
-    alloc: Global,
-    league: &League,
-    all: &[Candidate],
-) -> Result<Vec<Candidate>, AllocError> {
+fn apart(alloc: Global, league: &League, all: &[Candidate]) -> Result<Vec<Candidate>, AllocError> {
     let mut order = Vec::with_capacity(alloc, all.len())?;
     for k in 0..all.len() {
         order.push((share(league, all[k]), k))?;

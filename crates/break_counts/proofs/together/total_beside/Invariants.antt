@@ -7,6 +7,6 @@ abbrev pub invariant-loop-team : goal.invariant-loop-team
 invariant-loop-team l = record {
   so_far : l.sum
       ≡ sum_by (λ i. get_or l.numbers i 0)
-          (filter (λ i. not (is_counted l.league.constraints l.summands l.stretches i)) (range_with_len 0 l.team));
+      (filter (λ i. not (is_counted l.league.constraints l.summands l.stretches i)) (range_with_len 0 l.team));
   small : l.sum ≤ l.team * 2 ^ 32;
 }
