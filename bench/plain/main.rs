@@ -1,7 +1,7 @@
 //! plain LEAGUE WORD [--conflicts N] [--seconds N] [--laws] [--bound B] [--log FILE]: searches a league without any
 //! counts, by `clauses` or by `planes`, over its rows and those of breaks behind them. With `--laws` planes begin with the
-//! law of the fewest breaks too. With a bound the rows are those of seasons that cost at most so much, and planes begin
-//! with that law alone, as in `prove`.
+//! law of the fewest breaks too. With a bound the rows are those of seasons that cost at most so much, and planes begin as
+//! in `prove`.
 mod bound_rows;
 mod break_counts;
 mod circle_method;
@@ -110,7 +110,8 @@ fn add_derived(start: &mut Start, rows: &RowStore, from: usize) -> Result<(), Al
 
 /// Adds the law of the fewest breaks to what a search by planes over so many rows begins with.
 fn add_laws(start: &mut Start, league: &League, rows: u64) -> Result<(), AllocError> {
-    let laws = plane_floors::start::start_of(Global, league, rows + start.steps.len() as u64)?;
+    let venues = false;
+    let laws = plane_floors::start::start_of(Global, league, rows + start.steps.len() as u64, venues)?;
     for step in 0..laws.steps.len() {
         match laws.steps.kind(step) {
             StepKind::Clause => start.steps.push(laws.steps.clause(step), laws.steps.hints(step))?,

@@ -13,7 +13,7 @@ CRATES = """league robin_watch rows refutation propagate refutation_check clause
 LEFT_OUT = {
     "refutation": "fault feed front group line place token".split(),
     "decoding": "laws league_logs log_laws decoder".split(),
-    "break_counts": "allowed bounds counts laws log searched shortage".split(),
+    "break_counts": "allowed bounds counts laws log searched shortage sums together".split(),
     "bound_rows": ["laws"],
 }
 LEFT_OUT_CALLS = {("refutation", "log"): "push_clause_line push_linear_line push_line".split()}
@@ -51,7 +51,7 @@ def without_proofs(text):
     text = without(text, r"^impl(<[^\n{]*>)? Model for [^{]*", end_of_block)
     text = without(text, r"^[ \t]*(?:pub(?:\(crate\))? )?ghost (?=[a-z_*])", end_of_item)
     text = without(text, r"^[ \t]*(requires|ensures)\*?(?= |\{)", end_of_block)
-    text = re.sub(r"^#!?\[tactic.*\n", "", text, flags=re.M)
+    text = re.sub(r"^[ \t]*#!?\[tactic.*\n", "", text, flags=re.M)
     return re.sub(r"^const _: \(\) = prove!.*?;\n", "", text, flags=re.M | re.S)
 
 
