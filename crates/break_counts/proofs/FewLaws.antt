@@ -1,10 +1,10 @@
 -- What hard constraints allow is an upper bound of what an accepted schedule has: so one that allows too little accepts
 -- none.
-use Rattle.std.proofs.Common.{◌≡◌, ℕ, ◌+◌, ◌-◌, ◌*◌, ◌<◌, ◌≤◌, Bool, true, false, not, ◌&&◌, ◌||◌, ◌==◌, nat_lt, min, cond, zero, suc, get_or}
+use Rattle.std.proofs.Common.{◌≡◌, ℕ, ◌+◌, ◌-◌, ◌*◌, ◌≤◌, Bool, true, false, not, ◌&&◌, ◌||◌, ◌==◌, nat_lt, min, cond, get_or}
 use Rattle.std.proofs.Common.{List, [], ◌∷◌, length, map, inl, inr, refl, arith, ap, sym, ◌∙◌}
 use Rattle.std.specs.List.{All, filter, fold, list_all, list_any, range_with_len, sum_by}
 use Rattle.std.proofs.lemmas.Bool.Decides.{nat_tests}
-use Rattle.std.proofs.lemmas.Bool.{and_parts, cases_eq, cond-true, cond_both, eqb-true, ltb-true, or_cases}
+use Rattle.std.proofs.lemmas.Bool.{and_parts, cond-true, cond_both, eqb-true, ltb-true, or_cases}
 use Rattle.std.proofs.lemmas.List.Elements.{All-cons, All-head, All-nil, All-tail}
 use Rattle.std.proofs.lemmas.List.Sums.{sum_by-cons, sum_by-le, sum_by-le-sum_by}
 use Rattle.league.specs.Accepted.{IsAccepted, hard_of}
@@ -26,7 +26,7 @@ use Rattle.league.proofs.SumLemmas.{sum_by-add, sum_by-filter, sum_by-same}
 use Rattle.rows.proofs.ListLemmas.{list_all-at, sum_by-range-append, sum_by-range-part}
 use Rattle.venue_counts.specs.VenueCounts.{is_side}
 use Rattle.break_counts.specs.BreakCounts.{FewBreaksAllowNone, allowed_by, allowed_of, allowed_on, allowed_singly}
-use Rattle.break_counts.specs.BreakCounts.{allowed_with, are_few, covers, is_few_in, is_few_with, later_slots}
+use Rattle.break_counts.specs.BreakCounts.{allowed_with, covers, is_few_in, is_few_with, later_slots}
 use Rattle.break_counts.specs.BreakCounts.{stretch, stretches_of}
 use Rattle.break_counts.specs.declared.stretch.Stretch.{Stretch}
 use Rattle.break_counts.proofs.MetLemmas.{first_half-met, season-met, second_half-met}

@@ -1,8 +1,8 @@
 -- What bounds allow together is an upper bound of what an accepted schedule has, too.
 use Rattle.std.proofs.Common.{◌≡◌, ℕ, zero, suc, ◌+◌, ◌-◌, ◌*◌, ◌≤◌, Bool, true, false, not, ◌&&◌, ◌==◌, nat_lt, cond}
-use Rattle.std.proofs.Common.{List, [], ◌∷◌, length, Option, Some, None, inl, inr, refl, arith, ap, sym, subst, ◌∙◌}
+use Rattle.std.proofs.Common.{List, [], ◌∷◌, length, Option, Some, None, inl, inr, refl, arith, ap, subst, ◌∙◌}
 use Rattle.std.specs.Prelude.{slice_get}
-use Rattle.std.specs.List.{All, filter, list_all, list_any, range_with_len, sum_by}
+use Rattle.std.specs.List.{All, filter, list_any, range_with_len, sum_by}
 use Rattle.std.specs.Option.{option_map_or}
 use Rattle.std.proofs.lemmas.Bool.{and_parts, cond-true, cond_both, ltb-true, or_cases}
 use Rattle.std.proofs.lemmas.List.Elements.{All-head, All-tail}
@@ -27,7 +27,7 @@ use Rattle.break_counts.specs.Sums.{AddedBreaksAllowNone, AllowsTooFew, allowed_
 use Rattle.break_counts.specs.Sums.{is_few_together, most_breaks}
 use Rattle.break_counts.specs.declared.stretch.Stretch.{Stretch}
 use Rattle.break_counts.specs.declared.together.Summand.{Summand}
-use Rattle.break_counts.proofs.FewLaws.{Follow, all_later, allowed-of, before, broken, few-none, member_entry, needed}
+use Rattle.break_counts.proofs.FewLaws.{Follow, all_later, allowed-of, broken, few-none, member_entry, needed}
 use Rattle.break_counts.proofs.FewLaws.{none_in, one_le, parted, same_side, tested_le}
 use Rattle.break_counts.proofs.RangeSums.{one_term, only_in, only_in-le}
 use Rattle.break_counts.proofs.StretchLemmas.{IsMet}

@@ -9,21 +9,21 @@ ghost use Rattle.command_line.specs.SeenOptions.{names_of};
 /// Which options with values a command has.
 #[derive(Clone, Copy)]
 pub(crate) enum Options {
-    /// That of `patterns`, which says how far a search goes.
+    /// The option of `patterns`, which says how far a search goes.
     Search,
-    /// Those that say how far a search goes, or for how long.
+    /// The options that say how far a search goes, or for how long.
     Timed,
-    /// Those of `trial`, and of `resume` with `--near`.
+    /// The options of `trial`, and of `resume` with `--near`.
     Solve,
-    /// Those of `solve`.
+    /// The options of `solve`.
     Start,
-    /// Those of `prove`.
+    /// The options of `prove`.
     Prove,
-    /// That of the commands that check logs.
+    /// The option of the commands that check logs.
     Log,
-    /// That of `rows`.
+    /// The option of `rows`.
     Rows,
-    /// Those of `show`.
+    /// The options of `show`.
     Show,
 }
 

@@ -15,10 +15,10 @@ pub(crate) enum Mark {
 }
 
 impl Mark {
-    /// Each of them.
+    /// All marks.
     pub(crate) const ALL: [Mark; 4] = [Mark::Home, Mark::Away, Mark::HomeBreak, Mark::AwayBreak];
 
-    /// Its place among them.
+    /// The place of a mark among all marks.
     fn place(self) -> usize {
         match self {
             Mark::Home => 0,
