@@ -1,4 +1,5 @@
-// native WORDS [FILE..]: the call of the page without a browser, for the static library as the toolchain builds it. Words are joined by commas.
+// native WORDS [FILE..]: the call of the page without a browser, for the static library as the toolchain builds it. Words are joined by commas. ROOM in the environment
+// says how many bytes the texts may have.
 #include <stdio.h>
 #include <stdlib.h>
 #include <string.h>
@@ -19,7 +20,8 @@ static struct slice all_of(const char *name) {
 int main(int count, char **args) {
     struct slice files[4] = {{"", 0}, {"", 0}, {"", 0}, {"", 0}};
     struct lengths lengths;
-    size_t size = 1 << 26;
+    const char *asked = getenv("ROOM");
+    size_t size = asked ? strtoull(asked, 0, 10) : 1 << 26;
     char *room = malloc(size), *words = args[1];
     if (!room) exit(99);
     for (char *p = words; *p; p++) if (*p == ',') *p = '\n';

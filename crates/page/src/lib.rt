@@ -4,9 +4,6 @@
 //! pointer stands here, so no proof is written by hand for one.
 #![tactic(auto)]
 
-#[cfg(test)]
-mod tests;
-
 ghost use Rattle.std.specs.Prelude.{◌≡◌, ◌<◌, ◌≤◌, ◌⊎◌, length, map, string_bytes, take};
 ghost use Rattle.command_line.specs.Words.{reading};
 ghost use Rattle.page.specs.Promises.{Promises};
