@@ -12,12 +12,22 @@ use std::alloc::{AllocError, Global};
 use std::marker::Model;
 
 /// The bound rows of a league and a bound on the objective: seen as these two. It keeps a copy of the league.
-#[derive(Drop)]
 pub struct BoundSystem {
     league: League,
     bound: u64,
     rows: RowStore,
     vars: u32,
+}
+
+impl Drop for BoundSystem {
+    fn drop(self) {
+        let BoundSystem {
+            league: _,
+            bound: _,
+            rows: _,
+            vars: _,
+        } = self;
+    }
 }
 
 impl Model for BoundSystem {

@@ -13,7 +13,6 @@ use std::alloc::{AllocError, Global};
 
 /// What guides a search, and the lists with which conflicts are analyzed: each analysis uses the memory of the one
 /// before.
-#[derive(Drop)]
 pub(crate) struct Desk {
     pub(crate) order: Order,
     pub(crate) restarts: Restarts,
@@ -30,6 +29,23 @@ pub(crate) struct Desk {
     /// How many rows stand before the learnt clauses.
     pub(crate) given: u64,
     pub(crate) kept: Kept,
+}
+
+impl Drop for Desk {
+    fn drop(self) {
+        let Desk {
+            order: _,
+            restarts: _,
+            roles: _,
+            parts: _,
+            clause: _,
+            levels: _,
+            hints: _,
+            names: _,
+            given: _,
+            kept: _,
+        } = self;
+    }
 }
 
 impl Desk {

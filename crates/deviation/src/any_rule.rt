@@ -13,7 +13,6 @@ use separation::Se1;
 use std::alloc::{AllocError, Global};
 
 /// A constraint of any of the nine classes of the competition (RobinX, ITC 2021), ready for evaluation.
-#[derive(Drop)]
 pub enum AnyRule {
     Ca1(Ca1),
     Ca2(Ca2),
@@ -24,6 +23,22 @@ pub enum AnyRule {
     Br2(Br2),
     Fa2(Fa2),
     Se1(Se1),
+}
+
+impl Drop for AnyRule {
+    fn drop(self) {
+        match self {
+            AnyRule::Ca1(_) => {}
+            AnyRule::Ca2(_) => {}
+            AnyRule::Ca3(_) => {}
+            AnyRule::Ca4(_) => {}
+            AnyRule::Ga1(_) => {}
+            AnyRule::Br1(_) => {}
+            AnyRule::Br2(_) => {}
+            AnyRule::Fa2(_) => {}
+            AnyRule::Se1(_) => {}
+        }
+    }
 }
 
 impl AnyRule {

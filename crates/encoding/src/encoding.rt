@@ -16,13 +16,23 @@ use std::marker::Model;
 use std::ops::Range;
 
 /// A league's rows and variables: seen as the league. It keeps a copy of the league.
-#[derive(Drop)]
 pub struct Encoding {
     pub(crate) league: League,
     pub(crate) rows: RowStore,
     pub(crate) breaks: bool,
     /// Where the rows of each constraint begin, and behind that where the last row ends.
     pub(crate) starts: Vec<usize>,
+}
+
+impl Drop for Encoding {
+    fn drop(self) {
+        let Encoding {
+            league: _,
+            rows: _,
+            breaks: _,
+            starts: _,
+        } = self;
+    }
 }
 
 impl Model for Encoding {

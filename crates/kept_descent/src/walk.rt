@@ -29,13 +29,24 @@ const MOST_MOVES: u64 = 10_000;
 
 /// A season on its ground, all moves with the place of the next one to try, the edit of the one that was tried last,
 /// and how many moves are made.
-#[derive(Drop)]
 pub(crate) struct Walk<'a> {
     ground: Ground<'a>,
     moves: Vec<Swap>,
     next: usize,
     edit: Edit,
     made: u64,
+}
+
+impl Drop for Walk<'_> {
+    fn drop(self) {
+        let Walk {
+            ground: _,
+            moves: _,
+            next: _,
+            edit: _,
+            made: _,
+        } = self;
+    }
 }
 
 impl<'a> Walk<'a> {

@@ -360,11 +360,20 @@ fn copy_three(
 }
 
 /// A constraint of a league: hard or soft, with the penalty, of 32 bits, for each unit of its deviation.
-#[derive(Drop)]
 pub struct Constraint {
     pub hard: bool,
     pub penalty: u32,
     pub class: Class,
+}
+
+impl Drop for Constraint {
+    fn drop(self) {
+        let Constraint {
+            hard: _,
+            penalty: _,
+            class: _,
+        } = self;
+    }
 }
 
 impl Constraint {

@@ -17,7 +17,6 @@ use rows::{Lit, RowStore};
 use std::alloc::{AllocError, Global};
 
 /// The rows, what is true, what guides the search, and the steps so far.
-#[derive(Drop)]
 pub(crate) struct Desk {
     pub(crate) stock: Stock,
     pub(crate) trail: Trail,
@@ -26,8 +25,19 @@ pub(crate) struct Desk {
     pub(crate) tools: Tools,
 }
 
+impl Drop for Desk {
+    fn drop(self) {
+        let Desk {
+            stock: _,
+            trail: _,
+            order: _,
+            restarts: _,
+            tools: _,
+        } = self;
+    }
+}
+
 /// With what a conflict is analyzed.
-#[derive(Drop)]
 pub(crate) struct Tools {
     pub(crate) plane: Plane,
     pub(crate) reason: Reason,
@@ -36,6 +46,20 @@ pub(crate) struct Tools {
     pub(crate) draft: Draft,
     pub(crate) lits: Vec<Lit>,
     pub(crate) levels: Vec<usize>,
+}
+
+impl Drop for Tools {
+    fn drop(self) {
+        let Tools {
+            plane: _,
+            reason: _,
+            axioms: _,
+            units: _,
+            draft: _,
+            lits: _,
+            levels: _,
+        } = self;
+    }
 }
 
 impl Tools {

@@ -21,11 +21,20 @@ use std::marker::Model;
 ///
 /// Rows have the numbers from 1 on, and added clauses the next ones. A contract sees the number of variables, the rows
 /// with the clauses behind them, and the entries. Only `new` and `add` take memory.
-#[derive(Drop)]
 pub struct Trail<'a> {
     path: Path<'a>,
     watches: Watches,
     looked: Looked,
+}
+
+impl Drop for Trail<'_> {
+    fn drop(self) {
+        let Trail {
+            path: _,
+            watches: _,
+            looked: _,
+        } = self;
+    }
 }
 
 impl<'a> Model for Trail<'a> {

@@ -18,10 +18,15 @@ use std::marker::Model;
 ///
 /// The reader keeps at most 16,777,216 bytes of a line that a piece leaves unfinished, and none of a line that lies
 /// whole in a piece. After a fault it passes over all bytes.
-#[derive(Drop)]
 pub struct LogFeed {
     at: Place,
     room: Room,
+}
+
+impl Drop for LogFeed {
+    fn drop(self) {
+        let LogFeed { at: _, room: _ } = self;
+    }
 }
 
 impl Model for LogFeed {

@@ -25,12 +25,22 @@ struct End {
 
 /// The steps of a refutation, seen as their list. A literal takes 4 bytes, a hint 8, a part 16, and a step 32 beside
 /// them.
-#[derive(Drop)]
 pub struct Log {
     lits: Vec<Lit>,
     hints: Vec<u64>,
     parts: Vec<Part>,
     ends: Vec<End>,
+}
+
+impl Drop for Log {
+    fn drop(self) {
+        let Log {
+            lits: _,
+            hints: _,
+            parts: _,
+            ends: _,
+        } = self;
+    }
 }
 
 impl Model for Log {

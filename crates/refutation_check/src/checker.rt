@@ -22,7 +22,6 @@ use std::marker::Model;
 /// A checker borrows the rows, and keeps each step as its row, in 8 bytes a term, or 32 where a number of a sum doesn't
 /// fit that. A step costs no more than its clause, or its parts, and the rows that it names, each read at most twice;
 /// the first sum that names a variable makes a table of 32 bytes for each variable up to it.
-#[derive(Drop)]
 pub struct Checker<'a> {
     alloc: Global,
     rows: &'a RowStore,
@@ -33,6 +32,22 @@ pub struct Checker<'a> {
     trail: Vec<u32>,
     sum: Sum,
     rejection: Option<Rejection>,
+}
+
+impl Drop for Checker {
+    fn drop(self) {
+        let Checker {
+            alloc: _,
+            rows: _,
+            vars: _,
+            steps: _,
+            bytes: _,
+            partial: _,
+            trail: _,
+            sum: _,
+            rejection: _,
+        } = self;
+    }
 }
 
 impl<'a> Model for Checker<'a> {

@@ -28,13 +28,24 @@ use std::marker::Model;
 
 /// The resume rows of a league, of played games and of the number of slots that are played: seen as these three. It
 /// keeps a copy of the league and of the games.
-#[derive(Drop)]
 pub struct ResumeSystem {
     league: League,
     played: Schedule,
     k: u16,
     rows: RowStore,
     vars: u32,
+}
+
+impl Drop for ResumeSystem {
+    fn drop(self) {
+        let ResumeSystem {
+            league: _,
+            played: _,
+            k: _,
+            rows: _,
+            vars: _,
+        } = self;
+    }
 }
 
 impl Model for ResumeSystem {

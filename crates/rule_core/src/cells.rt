@@ -30,7 +30,6 @@ use std::marker::Model;
 /// the last slot that has a spare game, so that a round robin has none, but there is room for all from the start.
 /// Beside them the home games and the away games of each team in each slot are counted, and the slots in which there
 /// are any are marked.
-#[derive(Drop)]
 pub struct Cells {
     n: u16,
     games: u32,
@@ -43,6 +42,19 @@ pub struct Cells {
     homes: Counters,
     /// The away games, by team and slot.
     aways: Counters,
+}
+
+impl Drop for Cells {
+    fn drop(self) {
+        let Cells {
+            n: _,
+            games: _,
+            places: _,
+            spare: _,
+            homes: _,
+            aways: _,
+        } = self;
+    }
 }
 
 impl Model for Cells {

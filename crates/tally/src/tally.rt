@@ -24,13 +24,24 @@ use std::marker::Model;
 
 /// Weighted rules, and the counts of a schedule's games. The rules' deviation vectors, what the hard ones cost (the
 /// infeasibility) and what the soft ones cost (the objective) are kept, and are at every moment those on these counts.
-#[derive(Drop)]
 pub struct Tally<R: Entries> {
     rules: Vec<Kept<R>>,
     cells: Cells,
     by_team: Vec<GameList>,
     bench: Bench,
     sums: Sums,
+}
+
+impl<R: Entries> Drop for Tally<R> {
+    fn drop(self) {
+        let Tally {
+            rules: _,
+            cells: _,
+            by_team: _,
+            bench: _,
+            sums: _,
+        } = self;
+    }
 }
 
 impl<R: Entries> Model for Tally<R> {

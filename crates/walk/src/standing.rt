@@ -126,12 +126,22 @@ impl Stage {
 }
 
 /// A double round robin on a board, room for the games of a move, and the numbers that are drawn.
-#[derive(Drop)]
 pub(crate) struct Standing {
     pub(crate) board: Board,
     edit: Edit,
     traded: Traded,
     pub(crate) random: Pcg32,
+}
+
+impl Drop for Standing {
+    fn drop(self) {
+        let Standing {
+            board: _,
+            edit: _,
+            traded: _,
+            random: _,
+        } = self;
+    }
 }
 
 impl Standing {

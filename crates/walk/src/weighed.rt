@@ -53,7 +53,6 @@ impl Part {
 /// together on the games that they follow, and how much that may be at the goal of a walk. In a walk that cools slowly
 /// the goal is that fewer parts are unmet than at the end of any stretch. Soft constraints are weighed, too, or not. A
 /// move asks only those parts that its games, venues and breaks can change.
-#[derive(Drop)]
 pub(crate) struct WeighedParts {
     demands: Vec<Constraint>,
     parts: Vec<Part>,
@@ -66,6 +65,24 @@ pub(crate) struct WeighedParts {
     goal: u64,
     fewest: Option<usize>,
     are_soft: bool,
+}
+
+impl Drop for WeighedParts {
+    fn drop(self) {
+        let WeighedParts {
+            demands: _,
+            parts: _,
+            plays: _,
+            watches: _,
+            spots: _,
+            found: _,
+            unmet: _,
+            sum: _,
+            goal: _,
+            fewest: _,
+            are_soft: _,
+        } = self;
+    }
 }
 
 impl WeighedParts {
