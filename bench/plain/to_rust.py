@@ -47,8 +47,8 @@ def without(text, pattern, end):
 
 
 def without_proofs(text):
-    """The text without contracts, ghosts and models."""
-    text = without(text, r"^impl(<[^\n{]*>)? Model for [^{]*", end_of_block)
+    """The text without contracts, ghosts, models and drops: Rust drops each part by itself."""
+    text = without(text, r"^impl(<[^\n{]*>)? (?:Model|Drop) for [^{]*", end_of_block)
     text = without(text, r"^[ \t]*(?:pub(?:\(crate\))? )?ghost (?=[a-z_*])", end_of_item)
     text = without(text, r"^[ \t]*(requires|ensures)\*?(?= |\{)", end_of_block)
     text = re.sub(r"^[ \t]*#!?\[tactic.*\n", "", text, flags=re.M)
