@@ -9,7 +9,7 @@ use std::alloc::{AllocFailed, Global};
 use std::marker::Model;
 
 /// An attribute, as raw bytes of the file. The value stands without its quotes.
-#[derive(Clone, Copy, Debug, Default, PartialEq, Eq)]
+#[derive(Clone, Copy, Default, PartialEq, Eq)]
 pub struct Attr<'a> {
     /// The name, which no other attribute of the tag has.
     pub name: &'a [u8],
@@ -20,7 +20,7 @@ pub struct Attr<'a> {
 /// The attributes of a tag, in the order of the file.
 ///
 /// A contract sees them as a list. Up to eight take no memory of their own.
-#[derive(Debug, Drop)]
+#[derive(Drop)]
 pub struct Attrs<'a> {
     list: SmallVec<Attr<'a>, 8>,
 }

@@ -1,5 +1,5 @@
 // What stands in tags: names, attributes and ends.
-ghost use Rattle.std.specs.Prelude.{◌≡◌, ◌<◌, [], not, IsErrOf};
+ghost use Rattle.std.specs.Prelude.{◌≡◌, ◌+◌, ◌<◌, length, not, IsErrOf};
 ghost use Rattle.std.specs.List.{list_any};
 ghost use Rattle.robinx_tags.specs.Bytes as letters;
 ghost use Rattle.robinx_tags.specs.Fronts as fronts;
@@ -111,21 +111,21 @@ fn end_at(bytes: &[u8]) -> Result<(Option<TagKind>, &[u8]), FormKind>
     }
 }
 
-/// How a tag ends after its name or an attribute, all its attributes, and the bytes after the tag.
-fn attributes_at<'a>(alloc: Global, bytes: &'a [u8]) -> Result<(TagKind, Attrs<'a>, &'a [u8]), Stop>
-    ensures tag { Gives (λ x. ((x.0, x.1), x.2.now)) result (tags.attributes_at 64 [] bytes.now) }
-    ensures memory { IsErrOf result Stop.Mem → tags.without_memory < tags.more_attributes 64 [] bytes.now }
+/// How a tag ends after its name, and the bytes after it. Its attributes are put behind those that are there.
+fn attributes_at<'a>(attrs: &mut Attrs<'a>, bytes: &'a [u8]) -> Result<(TagKind, &'a [u8]), Stop>
+    ensures tag { Gives (λ x. ((x.0, attrs.new), x.1.now)) result (tags.attributes_at 64 attrs.old bytes.now) }
+    ensures memory { IsErrOf result Stop.Mem
+        → tags.without_memory < length attrs.old + tags.more_attributes 64 attrs.old bytes.now }
 {
-    let mut attrs = Attrs::new(alloc);
     let mut rest = bytes;
     let mut left = MOST_ATTRIBUTES;
-    loop {
+    'attributes: loop {
         let (end, begin) = end_at(rest)?;
         match end {
-            Some(kind) => return Ok((kind, attrs, begin)),
+            Some(kind) => return Ok((kind, begin)),
             None if left == 0 => return Err(Stop::Form(FormKind::TooManyAttributes)),
             None => {
-                let (attr, after) = attribute_at(&attrs, begin)?;
+                let (attr, after) = attribute_at(attrs, begin)?;
                 attrs.push(attr)?;
                 rest = after;
                 left -= 1;
@@ -143,6 +143,7 @@ pub(crate) fn start_tag<'a>(
     ensures memory { IsErrOf result Stop.Mem → tags.without_memory < tags.tag_attributes bytes.now }
 {
     let (name, after) = name_at(bytes)?;
-    let (kind, attrs, rest) = attributes_at(alloc, after)?;
+    let mut attrs = Attrs::new(alloc);
+    let (kind, rest) = attributes_at(&mut attrs, after)?;
     Ok((kind, name, attrs, rest))
 }

@@ -14,7 +14,7 @@ pub enum TagKind {
 }
 
 /// A piece of a file, whose parts are raw bytes of the file.
-#[derive(Debug, Drop)]
+#[derive(Drop)]
 pub struct Tag<'a> {
     pub kind: TagKind,
     /// The name of a tag. A text has none.
