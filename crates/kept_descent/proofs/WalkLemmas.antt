@@ -1,6 +1,7 @@
 -- What a walk knows that leaves the first slots alone, one move further.
 use Rattle.std.proofs.Common.{◌≡◌, ℕ, ◌+◌, ◌<◌, ◌≤◌, ◌⊎◌, Bool, true, false, List, length, get_or}
-use Rattle.std.proofs.Common.{ap, inl, inr, refl, subst, sym, ◌∙◌, arith}
+use Rattle.std.proofs.Common.{Option, Some, None, Result, Ok, Err, ap, inl, inr, refl, subst, sym, ◌∙◌, arith}
+use Rattle.std.specs.Prelude.{IfOk, MatchOption}
 use Rattle.std.specs.List.{All, AllWithin}
 use Rattle.std.proofs.lemmas.List.{get_or_default}
 use Rattle.std.proofs.lemmas.List.Elements.{All-contains, All-get_or}
@@ -26,8 +27,9 @@ use Rattle.tally.proofs.LeagueLemmas.{objective-league}
 use Rattle.resume_rows.specs.Kept.{Keeps}
 use Rattle.kept_descent.specs.Changed.{IsAtMost, IsNearer, changed_on}
 use Rattle.kept_descent.specs.Nearing.{IsEnd, IsNearest}
-use Rattle.kept_descent.specs.Walks.{IsBetter, IsDown, IsFoundAt, IsGround, IsWalkFrom, IsWalkOn}
+use Rattle.kept_descent.specs.Walks.{IsBetter, IsDown, IsFoundAt, IsGround, IsSeasonOn, IsWalkFrom, IsWalkOn}
 use Rattle.kept_descent.specs.declared.ground.Ground.{Ground}
+use Rattle.kept_descent.specs.declared.nearest.Nearest.{Nearest}
 use Rattle.kept_descent.specs.declared.plan.OldPlan.{OldPlan}
 use Rattle.kept_descent.specs.declared.walk.Walk.{Walk}
 use Rattle.kept_descent.proofs.ChangedLemmas.{at_most-itself, at_most-nearer}
@@ -160,23 +162,28 @@ full-at plan other m l step edit same counts full =
     subst (λ (c : Counts). IsFullEdit plan.league.now.n c step edit) counts
     (subst (λ (p : OldPlan). IsFullEdit p.league.now.n l step edit) same full)
 
--- where a whole round found none
-pub none-nearest : {R : Type 0} (E : Ghosts R) (walk tried : Walk) (tally kept : Tallied R) (end : ℕ)
-    → IsWalkOn E walk tally → KeepsGames tally kept → tried ≡ record walk { edit = tried.edit }
-    → end ≡ length walk.moves.items
+-- what is found in the first part of a round, where its second part has none
+pub found-round : {R : Type 0} (walk tried : Walk) (tally kept : Tallied R) (end : ℕ) (edit : Edits) (found : Option ℕ)
+    → KeepsGames tally kept → tried ≡ record walk { edit = tried.edit } → end ≡ length walk.moves.items
     → AllWithin (λ step. IsBetter walk.ground.plan (table_counts tally.table) step → ⊥) walk.moves.items walk.next end
-    → AllWithin (λ step. IsBetter tried.ground.plan (table_counts kept.table) step → ⊥) tried.moves.items 0 walk.next
-    → IsNearest walk.ground.plan.league.now walk.ground.plan.k walk.ground.plan.games.now (table_counts tally.table)
-none-nearest {R} E walk tried tally kept end is keeps same is_end first second =
+    → MatchOption found
+    (AllWithin (λ step. IsBetter tried.ground.plan (table_counts kept.table) step → ⊥) tried.moves.items 0 walk.next)
+    (IsFoundAt tried.ground.plan (table_counts kept.table) tried.moves.items edit)
+    → MatchOption found
+    (All (λ step. IsBetter walk.ground.plan (table_counts tally.table) step → ⊥) walk.moves.items)
+    (IsFoundAt walk.ground.plan (table_counts tally.table) walk.moves.items edit)
+found-round {R} walk tried tally kept end edit None keeps same is_end first second =
     let m : Counts = table_counts tally.table in
     let None_before : Walk → Counts → Type 0 =
     λ w c. AllWithin (λ step. IsBetter w.ground.plan c step → ⊥) w.moves.items 0 walk.next in
-    IsNearest-of_all E walk tally m is
-    (round-none (λ step. IsBetter walk.ground.plan m step → ⊥) walk.moves.items walk.next
+    round-none (λ step. IsBetter walk.ground.plan m step → ⊥) walk.moves.items walk.next
     (subst (λ (c : Counts). None_before walk c) keeps.counts
     (subst (λ (w : Walk). None_before w (table_counts kept.table)) same second))
     (subst (λ (last : ℕ). AllWithin (λ step. IsBetter walk.ground.plan m step → ⊥) walk.moves.items walk.next last)
-    is_end first))
+    is_end first)
+found-round {R} walk tried tally kept end edit (Some place) keeps same is_end first at =
+    subst (λ (c : Counts). IsFoundAt walk.ground.plan c walk.moves.items edit place) keeps.counts
+    (subst (λ (w : Walk). IsFoundAt w.ground.plan (table_counts kept.table) w.moves.items edit place) same at)
 
 -- nothing is nearer than a season that changes no game and costs nothing
 none-below : (changes cost before first : ℕ) → before ≡ 0 → first ≡ 0 → IsNearer changes cost before first → ⊥
@@ -319,3 +326,18 @@ IsEnd-of {R} E plan may_stop start walk tally schedule cost settled is counts fi
           (λ (m : Counts). settled ≡ false → may_stop ⊎ (IsNearest plan.league.now plan.k plan.games.now m → ⊥))
           back some;
     }
+
+-- the same of the season of a tally's games, where memory doesn't run out
+pub IsEnd-if : {R X : Type 0} (E : Ghosts R) (plan : OldPlan) (may_stop : Type 0) (start : Counts) (walk : Walk)
+    (tally : Tallied R) (settled : Bool) (result : Result Nearest X) → IsDown E plan start walk tally
+    → (settled ≡ true → IsNearest plan.league.now plan.k plan.games.now (table_counts tally.table))
+    → (settled ≡ false
+    → may_stop ⊎ (IsNearest plan.league.now plan.k plan.games.now (table_counts tally.table) → ⊥))
+    → IfOk result (IsSeasonOn E tally settled)
+    → IfOk result (IsEnd plan.league.now plan.k plan.games.now may_stop start)
+IsEnd-if {R} {X} E plan may_stop start walk tally settled (Ok nearest) down none some is =
+    IsEnd-of E plan may_stop start walk tally nearest.schedule nearest.objective nearest.settled down is.counts
+    (subst (λ (n : ℕ). All (IsGame n) nearest.schedule) (down-teams E plan start walk tally down) is.fit) is.in_order
+    (down-cost E plan start walk tally nearest.objective down is.cost) (λ said. none (sym is.said ∙ said))
+    (λ said. some (sym is.said ∙ said))
+IsEnd-if {R} {X} E plan may_stop start walk tally settled (Err error) down none some is = tt

@@ -1,10 +1,11 @@
 -- What a walk knows that leaves the first slots alone.
-use Rattle.std.specs.Prelude.{◌≡◌, ℕ, ◌<◌, ◌≤◌, List, length, slice_index_or}
+use Rattle.std.specs.Prelude.{◌≡◌, ℕ, ◌<◌, ◌≤◌, Bool, List, length, slice_index_or}
 use Rattle.std.specs.List.{All, sum_by}
 use Rattle.rule_core.specs.Table.{table_counts}
 use Rattle.league.specs.Accepted.{IsAccepted, MeetsHard, objective}
 use Rattle.league.specs.Counts.{Counts, counts_of}
 use Rattle.league.specs.Instance.{IsGame}
+use Rattle.league.specs.Order.{IsInOrder}
 use Rattle.league.specs.declared.game.Game.{Game}
 use Rattle.descent.specs.Walks.{IsFullEdit}
 use Rattle.moves.specs.Moves.{times}
@@ -14,10 +15,11 @@ use Rattle.moves.specs.declared.swap.Swap.{Swap}
 use Rattle.resume_rows.specs.Kept.{Keeps}
 use Rattle.rule_core.specs.declared.rule.Entries.{Ghosts}
 use Rattle.tally.specs.League.{AreRulesOf}
-use Rattle.tally.specs.Tallies.{Tallied}
+use Rattle.tally.specs.Tallies.{Tallied, objective_on}
 use Rattle.kept_descent.specs.Changed.{IsAtMost, IsNearer, changed_on}
 use Rattle.kept_descent.specs.Nearing.{IsNearing}
 use Rattle.kept_descent.specs.declared.ground.Ground.{Ground}
+use Rattle.kept_descent.specs.declared.nearest.Nearest.{Nearest}
 use Rattle.kept_descent.specs.declared.plan.OldPlan.{OldPlan}
 use Rattle.kept_descent.specs.declared.walk.Walk.{Walk}
 
@@ -84,3 +86,11 @@ pub record IsDown {R : Type 0} (E : Ghosts R) (plan : OldPlan) (first : Counts) 
     pub no_farther : IsAtMost (changed_on plan.k plan.games.now (table_counts tally.table))
         (objective plan.league.now (table_counts tally.table)) (changed_on plan.k plan.games.now first)
         (objective plan.league.now first)
+
+-- the season of a tally's games, in order, with what its soft rules cost, which is said to be settled or not
+pub record IsSeasonOn {R : Type 0} (E : Ghosts R) (tally : Tallied R) (settled : Bool) (nearest : Nearest) : Type 0 where
+  pub counts : counts_of nearest.schedule ≡ table_counts tally.table
+  pub fit : All (IsGame tally.table.n) nearest.schedule
+  pub in_order : IsInOrder nearest.schedule
+  pub cost : nearest.objective ≡ objective_on E (table_counts tally.table) tally.weights
+  pub said : nearest.settled ≡ settled

@@ -4,16 +4,21 @@ ghost use Rattle.std.specs.List.{All};
 ghost use Rattle.league.specs.Accepted.{IsAccepted};
 ghost use Rattle.league.specs.Counts.{counts_of};
 ghost use Rattle.league.specs.Instance.{IsGame};
+ghost use Rattle.league.specs.Structure.{IsRoundRobin};
+ghost use Rattle.rule_core.specs.Table.{table_counts};
+ghost use Rattle.tally.specs.League.{AreRulesOf};
 ghost use Rattle.kept_descent.specs.Nearing.{IsEnd, IsNearest};
+ghost use Rattle.kept_descent.specs.Walks.{IsSeasonOn};
 
 use crate::plan::OldPlan;
 use crate::walk::Walk;
-use descent::{Ended, season_of};
+use descent::season_of;
+use deviation::AnyRule;
 use league::Schedule;
 use robin_watch::Watch;
-use rule_core::{Plain, Steps};
+use rule_core::{Entries, Plain, Steps};
 use std::alloc::{AllocError, Global};
-use tally::league_tally;
+use tally::{Tally, league_tally};
 
 /// The season at the end of a descent, in order, with its objective, and whether it is known to be settled.
 #[derive(Drop)]
@@ -46,11 +51,51 @@ pub fn descend_near<W: Watch>(
 {
     let mut steps = Steps::<Plain>::start();
     let mut tally = league_tally(alloc, plan.league, 1, start.games(), &mut steps)?;
+    descend_from(alloc, plan, start, &mut tally, &mut steps, watch)
+}
+
+/// Descends so from an accepted season whose games a tally has.
+///
+/// # Errors
+/// Only where memory runs out.
+fn descend_from<W: Watch>(
+    alloc: Global,
+    plan: OldPlan<'_>,
+    start: &Schedule,
+    tally: &mut Tally<AnyRule>,
+    steps: &mut Steps<Plain>,
+    watch: &W,
+) -> Result<Nearest, AllocError>
+    requires plan_few { length plan.games.now ≤ 10000 }
+    requires plan_fit { All (IsGame plan.league.now.n) plan.games.now }
+    requires fit { All (IsGame plan.league.now.n) start.now }
+    requires accepted { IsAccepted plan.league.now (counts_of start.now) }
+    requires rules { AreRulesOf ⟦<AnyRule as Entries>⟧ 1 plan.league.now tally.old.weights }
+    requires teams { tally.old.table.n ≡ plan.league.now.n }
+    requires counts { table_counts tally.old.table ≡ counts_of start.now }
+    ensures { IfOk result (IsEnd plan.entry.league.now plan.entry.k plan.entry.games.now (W.may_stop watch.now)
+        (counts_of start.now)) }
+{
     let mut walk = Walk::new(alloc, plan, start)?;
-    let settled = walk.go_down(&mut tally, &mut steps, watch);
-    let schedule = season_of(alloc, plan.league.phased(), tally.cells())?;
+    let settled = walk.go_down(tally, steps, watch);
+    nearest_of(alloc, plan.league.phased(), tally, settled)
+}
+
+/// The season of a tally's games, in order, with its objective, which is said to be settled or not.
+///
+/// # Errors
+/// Only where memory runs out.
+fn nearest_of(
+    alloc: Global,
+    phased: bool,
+    tally: &Tally<AnyRule>,
+    settled: bool,
+) -> Result<Nearest, AllocError>
+    requires round_robin { IsRoundRobin tally.now.table.n phased (table_counts tally.now.table) }
+    ensures { IfOk result (IsSeasonOn ⟦<AnyRule as Entries>⟧ tally.now settled) }
+{
     Ok(Nearest {
-        schedule,
+        schedule: season_of(alloc, phased, tally.cells())?,
         objective: tally.objective(),
         settled,
     })
@@ -80,10 +125,33 @@ pub fn is_settled<W: Watch>(
 {
     let mut steps = Steps::<Plain>::start();
     let mut tally = league_tally(alloc, plan.league, 1, season.games(), &mut steps)?;
+    is_settled_at(alloc, plan, season, &mut tally, &mut steps, watch)
+}
+
+/// Whether an accepted season whose games a tally has is known to be settled so.
+///
+/// # Errors
+/// Only where memory runs out.
+fn is_settled_at<W: Watch>(
+    alloc: Global,
+    plan: OldPlan<'_>,
+    season: &Schedule,
+    tally: &mut Tally<AnyRule>,
+    steps: &mut Steps<Plain>,
+    watch: &W,
+) -> Result<bool, AllocError>
+    requires plan_few { length plan.games.now ≤ 10000 }
+    requires plan_fit { All (IsGame plan.league.now.n) plan.games.now }
+    requires fit { All (IsGame plan.league.now.n) season.now }
+    requires accepted { IsAccepted plan.league.now (counts_of season.now) }
+    requires rules { AreRulesOf ⟦<AnyRule as Entries>⟧ 1 plan.league.now tally.old.weights }
+    requires teams { tally.old.table.n ≡ plan.league.now.n }
+    requires counts { table_counts tally.old.table ≡ counts_of season.now }
+    ensures settled { IfOk result (λ settled. settled ≡ true
+        → IsNearest plan.entry.league.now plan.entry.k plan.entry.games.now (counts_of season.now)) }
+    ensures open_yet { IfOk result (λ settled. settled ≡ false → W.may_stop watch.now
+        ⊎ (IsNearest plan.entry.league.now plan.entry.k plan.entry.games.now (counts_of season.now) → ⊥)) }
+{
     let mut walk = Walk::new(alloc, plan, season)?;
-    match walk.find(&mut tally, &mut steps, watch) {
-        Ok(None) => Ok(true),
-        Ok(Some(_step)) => Ok(false),
-        Err(Ended) => Ok(false),
-    }
+    Ok(walk.is_settled(tally, steps, watch))
 }

@@ -106,6 +106,25 @@ impl<'a> Walk<'a> {
             }
         }
         self.made = MOST_MOVES;
+        self.is_settled(tally, steps, watch)
+    }
+
+    /// Whether it is known that no move betters the season. The tally has the same games as before.
+    pub(crate) fn is_settled<R: Rule<L>, L, W: Watch>(
+        &mut self,
+        tally: &mut Tally<R>,
+        steps: &mut Steps<L>,
+        watch: &W,
+    ) -> bool
+        requires walk { IsWalkOn R.Entries self.old tally.old }
+        ensures keeps { KeepsGames tally.old tally.new }
+        ensures walk { IsWalkOn R.Entries self.new tally.new }
+        ensures ground { self.new.ground ≡ self.old.ground }
+        ensures settled { result ≡ true → IsNearest self.old.ground.plan.league.now self.old.ground.plan.k
+            self.old.ground.plan.games.now (table_counts tally.old.table) }
+        ensures open_yet { result ≡ false → W.may_stop watch.now ⊎ (IsNearest self.old.ground.plan.league.now
+            self.old.ground.plan.k self.old.ground.plan.games.now (table_counts tally.old.table) → ⊥) }
+    {
         match self.find(tally, steps, watch) {
             Ok(None) => true,
             Ok(Some(_step)) => false,
@@ -136,17 +155,38 @@ impl<'a> Walk<'a> {
         if is_least(&self.ground, tally) {
             return Ok(None);
         }
+        let found = self.find_place(tally, steps, watch)?;
+        match found {
+            Some(place) => Ok(Some(self.take(place))),
+            None => Ok(None),
+        }
+    }
+
+    /// The place of the next move of one round of all moves, from where the walk stands, that betters the season. Then
+    /// the edit is that of the move. The tally has the same games as before.
+    fn find_place<R: Rule<L>, L, W: Watch>(
+        &mut self,
+        tally: &mut Tally<R>,
+        steps: &mut Steps<L>,
+        watch: &W,
+    ) -> Result<Option<usize>, Ended>
+        requires walk { IsWalkOn R.Entries self.old tally.old }
+        ensures keeps { KeepsGames tally.old tally.new }
+        ensures same { self.new ≡ record self.old { edit = self.new.edit } }
+        ensures edit_for { self.new.edit.n ≡ self.old.edit.n }
+        ensures found { IfOk result (λ found. MatchOption found
+            (All (λ step. IsBetter self.old.ground.plan (table_counts tally.old.table) step → ⊥) self.old.moves.items)
+            (IsFoundAt self.old.ground.plan (table_counts tally.old.table) self.old.moves.items self.new.edit)) }
+        ensures ended { OnErr result (W.may_stop watch.now) }
+    {
         let next = self.next;
         let end = self.moves.len();
         let behind = self.find_between(next, end, tally, steps, watch)?;
         match behind {
-            Some(place) => Ok(Some(self.take(place))),
+            Some(place) => Ok(Some(place)),
             None => {
                 let before = self.find_between(0, next, tally, steps, watch)?;
-                match before {
-                    Some(place) => Ok(Some(self.take(place))),
-                    None => Ok(None),
-                }
+                Ok(before)
             }
         }
     }

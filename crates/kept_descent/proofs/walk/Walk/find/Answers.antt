@@ -1,8 +1,9 @@
-use Rattle.std.proofs.Common.{rules, ◌≡◌, length, ap}
+use Rattle.std.proofs.Common.{◌<◌, ◌+◌, length, arith, ap, subst, sym, ◌∙◌}
 use Rattle.rule_core.specs.Table.{table_counts}
 use Rattle.descent.proofs.WalkLemmas.{found-nothing, found-some}
+use Rattle.kept_descent.specs.Walks.{IsWalkOn}
 use Rattle.kept_descent.specs.declared.walk.Walk.{Walk}
-use Rattle.kept_descent.proofs.WalkLemmas.{better-at, found-better, found-full, full-at, least-nearest, none-nearest}
+use Rattle.kept_descent.proofs.WalkLemmas.{IsNearest-of_all, IsWalkOn-tried, found-better, found-full, least-nearest}
 use Rattle.kept_descent.proofs.walk.Walk.find.Goals as goal
 
 pub returns-then-is_least-clause-found : goal.returns-then-is_least-clause-found
@@ -13,46 +14,42 @@ returns-then-is_least-clause-found g c =
 pub returns-in-Some-clause-found : goal.returns-in-Some-clause-found
 returns-in-Some-clause-found g c =
     found-better c.args.self.now.ground.plan (table_counts c.args.tally.now.table) c.args.self.now
-    c.find_between.new.self c.in-Some.place c.take.result c.find_between.ensures.same
-    (found-some _ _ c.in_ok-behind.behind c.in-Some.place c.in-Some.is c.in_ok-behind.ensures.found) c.take.ensures.step
+    c.find_place.new.self c.in-Some.place c.take.result c.find_place.ensures.same
+    (found-some _ _ c.in_ok-found.found c.in-Some.place c.in-Some.is c.in_ok-found.ensures.found) c.take.ensures.step
 
 pub returns-in-Some-clause-edit : goal.returns-in-Some-clause-edit
 returns-in-Some-clause-edit g c =
     found-full c.args.self.now.ground.plan (table_counts c.args.tally.now.table) c.args.self.now
-    c.find_between.new.self c.take.new.self c.in-Some.place c.take.result c.find_between.ensures.same
-    (found-some _ _ c.in_ok-behind.behind c.in-Some.place c.in-Some.is c.in_ok-behind.ensures.found) c.take.ensures.step
+    c.find_place.new.self c.take.new.self c.in-Some.place c.take.result c.find_place.ensures.same
+    (found-some _ _ c.in_ok-found.found c.in-Some.place c.in-Some.is c.in_ok-found.ensures.found) c.take.ensures.step
     c.take.ensures.next
 
-pub returns-in-Some-before-clause-found : goal.returns-in-Some-before-clause-found
-returns-in-Some-before-clause-found g c =
-    let walk = c.find_between.new.self in
-    let same : walk.ground.plan ≡ c.args.self.now.ground.plan =
-    ap (λ (w : Walk). w.ground.plan) c.find_between.ensures.same in
-    better-at c.args.self.now.ground.plan walk.ground.plan (table_counts c.args.tally.now.table)
-    (table_counts c.find_between.new.tally.table) c.take-in-Some-before.result same c.find_between.ensures.keeps.counts
-    (found-better walk.ground.plan (table_counts c.find_between.new.tally.table) walk c.find_between-in-None.new.self
-    c.in-Some-before.place c.take-in-Some-before.result c.find_between-in-None.ensures.same
-    (found-some _ _ c.in_ok-before-in-None.before c.in-Some-before.place c.in-Some-before.is
-    c.in_ok-before-in-None.ensures.found) c.take-in-Some-before.ensures.step)
+pub returns-in-None-clause-found : goal.returns-in-None-clause-found
+returns-in-None-clause-found g c =
+    IsNearest-of_all g.R.Entries c.args.self.now c.args.tally.now (table_counts c.args.tally.now.table) c.requires.walk
+    (found-nothing _ _ c.in_ok-found.found c.in-None.is c.in_ok-found.ensures.found)
 
-pub returns-in-Some-before-clause-edit : goal.returns-in-Some-before-clause-edit
-returns-in-Some-before-clause-edit g c =
-    let walk = c.find_between.new.self in
-    let same : walk.ground.plan ≡ c.args.self.now.ground.plan =
-    ap (λ (w : Walk). w.ground.plan) c.find_between.ensures.same in
-    full-at c.args.self.now.ground.plan walk.ground.plan (table_counts c.args.tally.now.table)
-    (table_counts c.find_between.new.tally.table) c.take-in-Some-before.result c.take-in-Some-before.new.self.edit same
-    c.find_between.ensures.keeps.counts
-    (found-full walk.ground.plan (table_counts c.find_between.new.tally.table) walk c.find_between-in-None.new.self
-    c.take-in-Some-before.new.self c.in-Some-before.place c.take-in-Some-before.result
-    c.find_between-in-None.ensures.same
-    (found-some _ _ c.in_ok-before-in-None.before c.in-Some-before.place c.in-Some-before.is
-    c.in_ok-before-in-None.ensures.found) c.take-in-Some-before.ensures.step c.take-in-Some-before.ensures.next)
+pub returns-in-Some-clause-walk : goal.returns-in-Some-clause-walk
+returns-in-Some-clause-walk g c =
+    let walk = c.args.self.now in
+    let place = c.in-Some.place in
+    let found = found-some _ _ c.in_ok-found.found place c.in-Some.is c.in_ok-found.ensures.found in
+    let within : place < length walk.moves.items = found.within in
+    subst (λ (w : Walk). IsWalkOn g.R.Entries w c.find_place.new.tally)
+    (sym (c.take.ensures.next ∙ ap (λ (w : Walk). record w { next = place + 1 }) c.find_place.ensures.same))
+    (IsWalkOn-tried g.R.Entries walk c.args.tally.now c.find_place.new.tally c.find_place.new.self.edit (place + 1)
+    c.requires.walk c.find_place.ensures.keeps c.find_place.ensures.edit_for (omega arith))
 
-pub returns-in-None-before-clause-found : goal.returns-in-None-before-clause-found
-returns-in-None-before-clause-found g c =
-    let at_end : c.len-end.result ≡ length c.args.self.now.moves.items = search rules in
-    none-nearest g.R.Entries c.args.self.now c.find_between.new.self c.args.tally.now c.find_between.new.tally
-    c.len-end.result c.requires.walk c.find_between.ensures.keeps c.find_between.ensures.same at_end
-    (found-nothing _ _ c.in_ok-behind.behind c.in-None.is c.in_ok-behind.ensures.found)
-    (found-nothing _ _ c.in_ok-before-in-None.before c.in-None-before.is c.in_ok-before-in-None.ensures.found)
+pub returns-in-None-clause-walk : goal.returns-in-None-clause-walk
+returns-in-None-clause-walk g c =
+    let walk = c.args.self.now in
+    subst (λ (w : Walk). IsWalkOn g.R.Entries w c.find_place.new.tally) (sym c.find_place.ensures.same)
+    (IsWalkOn-tried g.R.Entries walk c.args.tally.now c.find_place.new.tally c.find_place.new.self.edit walk.next
+    c.requires.walk c.find_place.ensures.keeps c.find_place.ensures.edit_for c.requires.walk.next_within)
+
+pub returns-in-Some-clause-ground : goal.returns-in-Some-clause-ground
+returns-in-Some-clause-ground g c =
+    ap (λ (w : Walk). w.ground) c.take.ensures.next ∙ ap (λ (w : Walk). w.ground) c.find_place.ensures.same
+
+pub returns-in-None-clause-ground : goal.returns-in-None-clause-ground
+returns-in-None-clause-ground g c = ap (λ (w : Walk). w.ground) c.find_place.ensures.same

@@ -1,11 +1,11 @@
-use Rattle.std.proofs.Common.{◌≡◌, ap, inl, inr, sym, ◌∙◌}
+use Rattle.std.proofs.Common.{◌≡◌, ap, inl, sym, ◌∙◌}
 use Rattle.rule_core.specs.Table.{table_counts}
 use Rattle.league.specs.Counts.{Counts}
 use Rattle.moves.specs.Moves.{moved}
 use Rattle.descent.proofs.WalkLemmas.{found-nothing, found-some}
 use Rattle.kept_descent.specs.declared.ground.Ground.{Ground}
 use Rattle.kept_descent.specs.declared.plan.OldPlan.{OldPlan}
-use Rattle.kept_descent.proofs.WalkLemmas.{IsDown-kept, IsDown-more, IsWalkOn-made, better-at, nearest-at, open-better}
+use Rattle.kept_descent.proofs.WalkLemmas.{IsDown-kept, IsDown-more, IsWalkOn-made, better-at, nearest-at, open-at}
 use Rattle.kept_descent.proofs.walk.Walk.go_down.Goals as goal
 
 pub find-requires : goal.find-requires
@@ -52,43 +52,25 @@ down-preserved g c =
     c.make.ensures.walk c.make.ensures.plan
 
 -- at the limit it is looked for once more
-pub find-requires-2 : goal.find-requires-2
-find-requires-2 g c = record {
+pub is_settled-requires : goal.is_settled-requires
+is_settled-requires g c = record {
   walk = IsWalkOn-made g.R.Entries c.down.self c.down.tally 10000 c.down.invariant.walks;
 }
 
-pub returns-in-Ok-None-find-clause-down : goal.returns-in-Ok-None-find-clause-down
-returns-in-Ok-None-find-clause-down g c =
+pub returns-clause-down : goal.returns-clause-down
+returns-clause-down g c =
     IsDown-kept g.R.Entries c.args.self.now.ground.plan (table_counts c.args.tally.now.table) c.down.self
-    c.find-2.new.self c.down.tally c.find-2.new.tally c.down.invariant c.find-2.ensures.keeps c.find-2.ensures.walk
-    c.find-2.ensures.ground
+    c.is_settled.new.self c.down.tally c.is_settled.new.tally c.down.invariant c.is_settled.ensures.keeps
+    c.is_settled.ensures.walk c.is_settled.ensures.ground
 
-pub returns-in-Ok-None-find-clause-settled : goal.returns-in-Ok-None-find-clause-settled
-returns-in-Ok-None-find-clause-settled g c said =
-    nearest-at c.args.self.now.ground.plan c.down.self.ground.plan (table_counts c.find-2.new.tally.table)
-    (table_counts c.down.tally.table) c.down.invariant.same (sym c.find-2.ensures.keeps.counts)
-    (found-nothing _ _ c.in-Ok-None-find.field-0 c.in-Ok-None-find.field-0-is c.in-Ok-None-find.ensures.found)
+pub returns-clause-settled : goal.returns-clause-settled
+returns-clause-settled g c said =
+    nearest-at c.args.self.now.ground.plan c.down.self.ground.plan (table_counts c.is_settled.new.tally.table)
+    (table_counts c.down.tally.table) c.down.invariant.same (sym c.is_settled.ensures.keeps.counts)
+    (c.is_settled.ensures.settled said)
 
-pub returns-in-Ok-Some-find-clause-down : goal.returns-in-Ok-Some-find-clause-down
-returns-in-Ok-Some-find-clause-down g c =
-    IsDown-kept g.R.Entries c.args.self.now.ground.plan (table_counts c.args.tally.now.table) c.down.self
-    c.find-2.new.self c.down.tally c.find-2.new.tally c.down.invariant c.find-2.ensures.keeps c.find-2.ensures.walk
-    c.find-2.ensures.ground
-
-pub returns-in-Ok-Some-find-clause-open_yet : goal.returns-in-Ok-Some-find-clause-open_yet
-returns-in-Ok-Some-find-clause-open_yet g c said =
-    inr
-    (open-better c.args.self.now.ground.plan c.down.self.ground.plan (table_counts c.find-2.new.tally.table)
-    (table_counts c.down.tally.table) c.in-Ok-Some-find._step c.down.invariant.same
-    (sym c.find-2.ensures.keeps.counts)
-    (found-some _ _ c.in-Ok-Some-find.field-0 c.in-Ok-Some-find._step c.in-Ok-Some-find.field-0-is
-    c.in-Ok-Some-find.ensures.found))
-
-pub returns-in-Err-find-clause-down : goal.returns-in-Err-find-clause-down
-returns-in-Err-find-clause-down g c =
-    IsDown-kept g.R.Entries c.args.self.now.ground.plan (table_counts c.args.tally.now.table) c.down.self
-    c.find-2.new.self c.down.tally c.find-2.new.tally c.down.invariant c.find-2.ensures.keeps c.find-2.ensures.walk
-    c.find-2.ensures.ground
-
-pub returns-in-Err-find-clause-open_yet : goal.returns-in-Err-find-clause-open_yet
-returns-in-Err-find-clause-open_yet g c said = inl c.in-Err-find.ensures.ended
+pub returns-clause-open_yet : goal.returns-clause-open_yet
+returns-clause-open_yet g c said =
+    open-at c.args.self.now.ground.plan c.down.self.ground.plan _ (table_counts c.is_settled.new.tally.table)
+    (table_counts c.down.tally.table) c.down.invariant.same (sym c.is_settled.ensures.keeps.counts)
+    (c.is_settled.ensures.open_yet said)
