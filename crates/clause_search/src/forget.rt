@@ -1,6 +1,6 @@
 //! How clauses are forgotten: the search goes on with another trail, which has behind its rows the clauses that are still
 //! kept. The log has the steps of all.
-ghost use Rattle.std.specs.Prelude.{◌≡◌, ◌<◌, ◌++◌, false, length, map, OnOk};
+ghost use Rattle.std.specs.Prelude.{◌≡◌, ◌<◌, ◌++◌, [], false, length, map, OnOk};
 ghost use Rattle.std.specs.List.{All};
 ghost use Rattle.propagate.specs.Trails.{KnowsVariables};
 ghost use Rattle.refutation.specs.Steps.{is_linear};
@@ -46,11 +46,28 @@ pub(crate) fn lighten<'a>(
         release_all(trail, &mut desk.order);
         desk.kept
             .forget(alloc, trail, desk.given, log.len() as u64)?;
-        let bare = Trail::new(alloc, rows, desk.order.vars)?;
-        *trail = bare;
+        renew(alloc, rows, trail, desk.order.vars)?;
         add_clauses(trail, log, &desk.kept.places)?;
         return Ok(());
     }
+    Ok(())
+}
+
+/// Makes a trail one over these rows with so many variables, on which no literal was made true.
+///
+/// # Errors
+/// Only where memory runs out.
+fn renew<'a>(
+    alloc: Global,
+    rows: &'a RowStore,
+    trail: &mut Trail<'a>,
+    vars: u32,
+) -> Result<(), AllocError>
+    requires { All (KnowsVariables vars) rows.now }
+    ensures { OnOk result (trail.new ≡ record { vars = vars; rows = rows.now; entries = [] }) }
+{
+    let bare = Trail::new(alloc, rows, vars)?;
+    *trail = bare;
     Ok(())
 }
 

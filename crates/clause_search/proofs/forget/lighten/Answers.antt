@@ -6,15 +6,15 @@ use Rattle.clause_search.specs.News.{IsTidy, row_of}
 use Rattle.clause_search.proofs.KeptLemmas.{All-part, bare_trail, with_rows}
 use Rattle.clause_search.proofs.forget.lighten.Goals as goal
 
-pub new-requires : goal.new-requires
-new-requires c =
+pub renew-requires : goal.renew-requires
+renew-requires c =
     subst (λ (v : ℕ). All (KnowsVariables v) c.args.rows.now) (sym (c.release_all.ensures ∙ c.requires.vars))
     c.requires.known
 
 pub add_clauses-requires-clause-tidy : goal.add_clauses-requires-clause-tidy
 add_clauses-requires-clause-tidy c =
     subst (λ (v : ℕ). All (IsTidy v) c.args.log.now)
-    (sym (ap (λ (u : SeenTrail). u.vars) c.in_ok-bare.ensures ∙ c.release_all.ensures ∙ c.requires.vars))
+    (sym (ap (λ (u : SeenTrail). u.vars) c.in_ok-renew.ensures ∙ c.release_all.ensures ∙ c.requires.vars))
     c.requires.tidy
 
 pub add_clauses-requires-clause-there : goal.add_clauses-requires-clause-there
@@ -33,7 +33,7 @@ returns-then-is_full-clause-lightened c = inr (record {
   trail =
       c.in_ok-add_clauses.ensures
       ∙ ap (λ (u : SeenTrail). with_rows u (map row_of (steps_at c.args.log.now c.deref.result.now)))
-      c.in_ok-bare.ensures
+      c.in_ok-renew.ensures
       ∙ ap (λ (v : ℕ). bare_trail v (c.args.rows.now ++ map row_of (steps_at c.args.log.now c.deref.result.now)))
       (c.release_all.ensures ∙ c.requires.vars)
       ∙ ap (λ (ps : List ℕ). bare_trail c.args.trail.now.vars
