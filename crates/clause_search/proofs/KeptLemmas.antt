@@ -109,6 +109,10 @@ All-steps_at P steps places within all =
 abbrev pub bare_trail : ℕ → List Row → SeenTrail
 bare_trail vars rows = record { vars = vars; rows = rows; entries = [] }
 
+-- a trail with some rows more
+abbrev pub with_rows : SeenTrail → List Row → SeenTrail
+with_rows trail rows = record trail { rows = trail.rows ++ rows }
+
 module _ (vars : ℕ) (steps : List Step) (places : List ℕ) (k : ℕ) (within : k < length places)
     (there : All (λ p. p < length steps) places) (tidy : All (IsTidy vars) steps) where
   abbrev place : ℕ
@@ -148,10 +152,10 @@ module _ (vars : ℕ) (steps : List Step) (places : List ℕ) (k : ℕ) (within 
       ∙ ap (λ (row : Row). map row_of (steps_at steps (take k places)) ++ row ∷ []) (row_there clause clause_is)))
 
   -- a clause more
-  pub trail_more : (rows : List Row) (clause : List Literal) (old new : SeenTrail) → clause ≡ clause_at steps place
-      → old ≡ bare_trail vars (rows ++ map row_of (steps_at steps (take k places)))
+  pub trail_more : (bare : SeenTrail) (clause : List Literal) (old new : SeenTrail) → clause ≡ clause_at steps place
+      → old ≡ with_rows bare (map row_of (steps_at steps (take k places)))
       → new ≡ record old { rows = old.rows ++ at_least 1 clause ∷ [] }
-      → new ≡ bare_trail vars (rows ++ map row_of (steps_at steps (take (k + 1) places)))
-  trail_more rows clause old new clause_is old_is new_is =
+      → new ≡ with_rows bare (map row_of (steps_at steps (take (k + 1) places)))
+  trail_more bare clause old new clause_is old_is new_is =
       new_is ∙ ap (λ (u : SeenTrail). record u { rows = u.rows ++ at_least 1 clause ∷ [] }) old_is
-      ∙ ap (λ (rs : List Row). bare_trail vars rs) (rows_more rows clause clause_is)
+      ∙ ap (λ (rs : List Row). record bare { rows = rs }) (rows_more bare.rows clause clause_is)

@@ -1,5 +1,5 @@
 //! The search.
-ghost use Rattle.std.specs.Prelude.{◌≡◌, ◌⊎◌, ℕ, ◌^◌, ◌<◌, ◌≤◌, length, Option, Some, None, true, false, IfOk, IfSome};
+ghost use Rattle.std.specs.Prelude.{◌≡◌, ◌⊎◌, ℕ, ◌^◌, ◌<◌, ◌≤◌, [], length, Option, Some, None, true, false, IfOk, IfSome};
 ghost use Rattle.std.specs.List.{All};
 ghost use Rattle.rows.specs.Partials.{IsQuiet};
 ghost use Rattle.propagate.specs.Trails.{IsQuietBelow, IsSettled, KnowsVariables, NamesConflict, values_of};
@@ -77,15 +77,36 @@ pub fn search_watched<W: Watch>(
         → IfOk result (IsAnswer rows.now vars (lower_limit limit first)) }
 {
     let mut trail = Trail::new(alloc, rows, vars)?;
-    let mut log = Log::new(alloc);
     let given = rows.len();
     let mut desk = Desk::new(alloc, given as u64, vars, prefer)?;
+    take_turns(alloc, rows, &mut trail, &mut desk, limit, watch)
+}
+
+/// Takes turns until one ends the search. It begins with a trail over these rows on which no literal was made true.
+fn take_turns<'a, W: Watch>(
+    alloc: Global,
+    rows: &'a RowStore,
+    trail: &mut Trail<'a>,
+    desk: &mut Desk,
+    limit: Option<u64>,
+    watch: &W,
+) -> Result<Found, AllocError>
+    requires known { All (KnowsVariables trail.old.vars) rows.now }
+    requires trail { trail.old ≡ record { vars = trail.old.vars; rows = rows.now; entries = [] } }
+    requires given { desk.old.given ≡ length rows.now }
+    requires vars { desk.old.order.vars ≡ trail.old.vars }
+    requires kept { desk.old.kept.places.items ≡ [] }
+    ensures answer { IfOk result (IsAnswerBy rows.now trail.old.vars limit (W.may_stop watch.now)) }
+    ensures planned { (first : Option ℕ) → EndsAt (W.stops_at watch.now) first
+        → IfOk result (IsAnswer rows.now trail.old.vars (lower_limit limit first)) }
+{
+    let mut log = Log::new(alloc);
     'turns: loop {
         let found = trail.run();
         let kept = limit_here(&found, limit, log.len() as u64, watch);
-        let turn = take_turn(alloc, &mut trail, &mut log, &mut desk, found, kept)?;
+        let turn = take_turn(alloc, trail, &mut log, desk, found, kept)?;
         match turn {
-            Turn::Again => lighten(alloc, rows, &mut trail, &log, &mut desk)?,
+            Turn::Again => lighten(alloc, rows, trail, &log, desk)?,
             Turn::Satisfied(values) => return Ok(Found::Sat(values)),
             Turn::Refuted => return Ok(Found::Refuted(log)),
             Turn::Spent => return Ok(Found::Spent(log)),

@@ -17,7 +17,7 @@ pub enum ValuesFault {
 }
 
 /// Why a line is refused.
-#[derive(Clone, Copy, Debug, PartialEq, Eq)]
+#[derive(Clone, Copy)]
 pub(crate) enum WordFault {
     /// A word is no literal.
     Wrong,
