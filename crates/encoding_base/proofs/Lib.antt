@@ -2,6 +2,8 @@
 pub mod AscendLemmas
 pub mod MeetingOrder
 pub mod NumberLemmas
+-- Lists that grow element by element:
+pub mod GrownLemmas
 -- Worked examples, so that a wrong definition does not check:
 pub mod EncodingFacts
 pub mod ClassRowFacts
