@@ -14,9 +14,10 @@ ghost use Rattle.reasons.specs.Reasons.{reasons_at, reasons_of};
 
 use crate::bounded::{Entry, Windows, push_by_games, push_by_windows, span_slots};
 use crate::breaks::{push_all_breaks, push_breaks, push_by_breaks};
+use crate::game_test::GameTest;
 use crate::gaps::push_gaps;
 use crate::leads::{PairAt, push_lead};
-use crate::listed::{ca1_games, ca2_games, ca4_games, ga1_games};
+use crate::listed::games_that_pass;
 use crate::pairs::pair_at;
 use crate::reason::Reason;
 use crate::season::Season;
@@ -49,7 +50,9 @@ fn push_of_team(
         } => {
             let (min, max) = (*min, *max);
             let player = player_at(teams, key, *side);
-            let counted = ca1_games(alloc, season.games, player, slots.numbers())?;
+            let slots = slots.numbers();
+            let test = GameTest::Ca1 { player, slots };
+            let counted = games_that_pass(alloc, season.games, &test)?;
             push_by_games(Entry { key, min, max }, counted, reasons)
         }
         Class::Ca2 {
@@ -62,7 +65,12 @@ fn push_of_team(
         } => {
             let (min, max) = (*min, *max);
             let player = player_at(teams1, key, *side);
-            let counted = ca2_games(alloc, season.games, player, teams2, slots.numbers())?;
+            let test = GameTest::Ca2 {
+                player,
+                others: teams2,
+                slots: slots.numbers(),
+            };
+            let counted = games_that_pass(alloc, season.games, &test)?;
             push_by_games(Entry { key, min, max }, counted, reasons)
         }
         Class::Ca3 { .. } => push_of_windows(class, season, key, reasons),
@@ -138,7 +146,13 @@ fn push_of_meetings(
         } => {
             let (min, max) = (*min, *max);
             let slots = span_slots(*span, slots.numbers(), key);
-            let counted = ca4_games(alloc, season.games, *side, teams1, teams2, slots)?;
+            let test = GameTest::Ca4 {
+                side: *side,
+                teams1,
+                teams2,
+                slots,
+            };
+            let counted = games_that_pass(alloc, season.games, &test)?;
             push_by_games(Entry { key, min, max }, counted, reasons)
         }
         Class::Ga1 {
@@ -148,7 +162,9 @@ fn push_of_meetings(
             slots,
         } => {
             let (min, max) = (*min, *max);
-            let counted = ga1_games(alloc, season.games, meetings, slots.numbers())?;
+            let slots = slots.numbers();
+            let test = GameTest::Ga1 { meetings, slots };
+            let counted = games_that_pass(alloc, season.games, &test)?;
             push_by_games(Entry { key, min, max }, counted, reasons)
         }
         _ => unreachable!(),
