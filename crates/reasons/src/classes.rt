@@ -1,6 +1,6 @@
 //! The reasons of a constraint of any class.
 ghost use Rattle.std.specs.Prelude.{◌≡◌, ◌<◌, ◌++◌, length, slice_index, OnOk, IfOk, IsTrue};
-ghost use Rattle.std.specs.List.{All};
+ghost use Rattle.std.specs.List.{All, filter};
 ghost use Rattle.league.specs.Counts.{counts_of};
 ghost use Rattle.league.specs.Deviation.{vector_of};
 ghost use Rattle.league.specs.Instance.{IsGame, class_fits};
@@ -10,7 +10,8 @@ ghost use Rattle.reasons.specs.Groups.{compares_teams, counts_breaks, counts_gam
 ghost use Rattle.reasons.specs.Groups.{counts_games_of_meetings, counts_in_windows};
 ghost use Rattle.reasons.specs.Laws.{AddUp, ListAllTouching, ListTouching};
 ghost use Rattle.reasons.specs.Own.{IsSeason};
-ghost use Rattle.reasons.specs.Reasons.{reasons_at, reasons_of};
+ghost use Rattle.reasons.specs.Reasons.{by_games, reasons_at, reasons_of};
+ghost use Rattle.reasons.specs.Tested.{passes};
 
 use crate::bounded::{Entry, Windows, push_by_games, push_by_windows, span_slots};
 use crate::breaks::{push_all_breaks, push_breaks, push_by_breaks};
@@ -24,6 +25,20 @@ use crate::season::Season;
 use crate::tests_of_games::Player;
 use league::{Class, Side, TeamSet};
 use std::alloc::{AllocError, Global};
+
+/// Adds the reason of an entry, by the games of a season that pass a test.
+fn push_by_test(
+    season: &Season<'_>,
+    test: &GameTest<'_>,
+    entry: Entry,
+    reasons: &mut Vec<Reason>,
+) -> Result<(), AllocError>
+    ensures { OnOk result (reasons.new.items ≡ reasons.old.items
+        ++ by_games entry.key entry.min entry.max (filter (passes test.now) season.now.games.now)) }
+{
+    let counted = games_that_pass(*reasons.allocator(), season.games, test)?;
+    push_by_games(entry, counted, reasons)
+}
 
 /// Adds the reasons at a key of CA1, CA2 or CA3.
 fn push_of_team(
@@ -39,7 +54,6 @@ fn push_of_team(
     ensures { OnOk result (reasons.new.items
         ≡ reasons.old.items ++ reasons_at season.now.cells.now.n season.now.games.now class.now key) }
 {
-    let alloc = *reasons.allocator();
     match class {
         Class::Ca1 {
             teams,
@@ -52,8 +66,7 @@ fn push_of_team(
             let player = player_at(teams, key, *side);
             let slots = slots.numbers();
             let test = GameTest::Ca1 { player, slots };
-            let counted = games_that_pass(alloc, season.games, &test)?;
-            push_by_games(Entry { key, min, max }, counted, reasons)
+            push_by_test(season, &test, Entry { key, min, max }, reasons)
         }
         Class::Ca2 {
             teams1,
@@ -70,8 +83,7 @@ fn push_of_team(
                 others: teams2,
                 slots: slots.numbers(),
             };
-            let counted = games_that_pass(alloc, season.games, &test)?;
-            push_by_games(Entry { key, min, max }, counted, reasons)
+            push_by_test(season, &test, Entry { key, min, max }, reasons)
         }
         Class::Ca3 { .. } => push_of_windows(class, season, key, reasons),
         _ => unreachable!(),
@@ -133,7 +145,6 @@ fn push_of_meetings(
     ensures { OnOk result (reasons.new.items
         ≡ reasons.old.items ++ reasons_at season.now.cells.now.n season.now.games.now class.now key) }
 {
-    let alloc = *reasons.allocator();
     match class {
         Class::Ca4 {
             teams1,
@@ -152,8 +163,7 @@ fn push_of_meetings(
                 teams2,
                 slots,
             };
-            let counted = games_that_pass(alloc, season.games, &test)?;
-            push_by_games(Entry { key, min, max }, counted, reasons)
+            push_by_test(season, &test, Entry { key, min, max }, reasons)
         }
         Class::Ga1 {
             meetings,
@@ -164,8 +174,7 @@ fn push_of_meetings(
             let (min, max) = (*min, *max);
             let slots = slots.numbers();
             let test = GameTest::Ga1 { meetings, slots };
-            let counted = games_that_pass(alloc, season.games, &test)?;
-            push_by_games(Entry { key, min, max }, counted, reasons)
+            push_by_test(season, &test, Entry { key, min, max }, reasons)
         }
         _ => unreachable!(),
     }
