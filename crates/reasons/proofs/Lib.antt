@@ -10,6 +10,7 @@ pub mod NoneLemmas
 pub mod OwnLemmas
 pub mod PairLemmas
 pub mod RunLemmas
+pub mod TestLemmas
 pub mod TouchLemmas
 pub mod ExactLemmas
 -- Worked examples, so that a wrong definition does not check:

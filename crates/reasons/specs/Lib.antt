@@ -10,3 +10,4 @@ pub mod Laws
 pub mod Groups
 pub mod Own
 pub mod Runs
+pub mod Tested

@@ -6,7 +6,8 @@ ghost use Rattle.reasons.specs.Counting.{counts_in_ca3};
 ghost use Rattle.reasons.specs.Own.{IsSeason};
 ghost use Rattle.reasons.specs.Reasons.{by_games, by_window, where_missed};
 
-use crate::listed::{games_against, games_in_window};
+use crate::game_test::GameTest;
+use crate::listed::{games_against, games_that_pass};
 use crate::reason::{Cause, GameList, Reason};
 use crate::season::Season;
 use crate::tests_of_games::Player;
@@ -109,7 +110,9 @@ pub(crate) fn push_by_windows(
     let alloc = *reasons.allocator();
     let against = games_against(alloc, season, player, others)?;
     for first in 0..windows.count {
-        let counted = games_in_window(alloc, against.games(), windows.intp, first)?;
+        let intp = windows.intp;
+        let test = GameTest::Window { intp, first };
+        let counted = games_that_pass(alloc, against.games(), &test)?;
         push_by_window(entry, first, counted, reasons)?;
     }
     Ok(())

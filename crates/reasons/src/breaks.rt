@@ -9,7 +9,8 @@ ghost use Rattle.reasons.specs.Own.{IsSeason};
 ghost use Rattle.reasons.specs.Reasons as specs;
 
 use crate::bounded::push_missed;
-use crate::listed::break_games;
+use crate::game_test::GameTest;
+use crate::listed::games_that_pass;
 use crate::reason::{Break, BreakList, Cause, Reason};
 use crate::season::Season;
 use crate::tests_of_games::Player;
@@ -44,11 +45,12 @@ fn break_of(
 ) -> Result<Break, AllocError>
     ensures { IfOk result (λ found. found ≡ specs.break_of games.now player.side player.team slot.0) }
 {
+    let test = GameTest::Break { player, slot };
     Ok(Break {
         team: TeamId(player.team),
         side: player.side,
         slot,
-        games: break_games(alloc, games, player, slot)?,
+        games: games_that_pass(alloc, games, &test)?,
     })
 }
 

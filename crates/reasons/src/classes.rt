@@ -1,6 +1,6 @@
 //! The reasons of a constraint of any class.
 ghost use Rattle.std.specs.Prelude.{◌≡◌, ◌<◌, ◌++◌, length, slice_index, OnOk, IfOk, IsTrue};
-ghost use Rattle.std.specs.List.{All};
+ghost use Rattle.std.specs.List.{All, filter};
 ghost use Rattle.league.specs.Counts.{counts_of};
 ghost use Rattle.league.specs.Deviation.{vector_of};
 ghost use Rattle.league.specs.Instance.{IsGame, class_fits};
@@ -10,19 +10,35 @@ ghost use Rattle.reasons.specs.Groups.{compares_teams, counts_breaks, counts_gam
 ghost use Rattle.reasons.specs.Groups.{counts_games_of_meetings, counts_in_windows};
 ghost use Rattle.reasons.specs.Laws.{AddUp, ListAllTouching, ListTouching};
 ghost use Rattle.reasons.specs.Own.{IsSeason};
-ghost use Rattle.reasons.specs.Reasons.{reasons_at, reasons_of};
+ghost use Rattle.reasons.specs.Reasons.{by_games, reasons_at, reasons_of};
+ghost use Rattle.reasons.specs.Tested.{passes};
 
 use crate::bounded::{Entry, Windows, push_by_games, push_by_windows, span_slots};
 use crate::breaks::{push_all_breaks, push_breaks, push_by_breaks};
+use crate::game_test::GameTest;
 use crate::gaps::push_gaps;
 use crate::leads::{PairAt, push_lead};
-use crate::listed::{ca1_games, ca2_games, ca4_games, ga1_games};
+use crate::listed::games_that_pass;
 use crate::pairs::pair_at;
 use crate::reason::Reason;
 use crate::season::Season;
 use crate::tests_of_games::Player;
 use league::{Class, Side, TeamSet};
 use std::alloc::{AllocError, Global};
+
+/// Adds the reason of an entry, by the games of a season that pass a test.
+fn push_by_test(
+    season: &Season<'_>,
+    test: &GameTest<'_>,
+    entry: Entry,
+    reasons: &mut Vec<Reason>,
+) -> Result<(), AllocError>
+    ensures { OnOk result (reasons.new.items ≡ reasons.old.items
+        ++ by_games entry.key entry.min entry.max (filter (passes test.now) season.now.games.now)) }
+{
+    let counted = games_that_pass(*reasons.allocator(), season.games, test)?;
+    push_by_games(entry, counted, reasons)
+}
 
 /// Adds the reasons at a key of CA1, CA2 or CA3.
 fn push_of_team(
@@ -38,7 +54,6 @@ fn push_of_team(
     ensures { OnOk result (reasons.new.items
         ≡ reasons.old.items ++ reasons_at season.now.cells.now.n season.now.games.now class.now key) }
 {
-    let alloc = *reasons.allocator();
     match class {
         Class::Ca1 {
             teams,
@@ -49,8 +64,9 @@ fn push_of_team(
         } => {
             let (min, max) = (*min, *max);
             let player = player_at(teams, key, *side);
-            let counted = ca1_games(alloc, season.games, player, slots.numbers())?;
-            push_by_games(Entry { key, min, max }, counted, reasons)
+            let slots = slots.numbers();
+            let test = GameTest::Ca1 { player, slots };
+            push_by_test(season, &test, Entry { key, min, max }, reasons)
         }
         Class::Ca2 {
             teams1,
@@ -62,8 +78,12 @@ fn push_of_team(
         } => {
             let (min, max) = (*min, *max);
             let player = player_at(teams1, key, *side);
-            let counted = ca2_games(alloc, season.games, player, teams2, slots.numbers())?;
-            push_by_games(Entry { key, min, max }, counted, reasons)
+            let test = GameTest::Ca2 {
+                player,
+                others: teams2,
+                slots: slots.numbers(),
+            };
+            push_by_test(season, &test, Entry { key, min, max }, reasons)
         }
         Class::Ca3 { .. } => push_of_windows(class, season, key, reasons),
         _ => unreachable!(),
@@ -125,7 +145,6 @@ fn push_of_meetings(
     ensures { OnOk result (reasons.new.items
         ≡ reasons.old.items ++ reasons_at season.now.cells.now.n season.now.games.now class.now key) }
 {
-    let alloc = *reasons.allocator();
     match class {
         Class::Ca4 {
             teams1,
@@ -138,8 +157,13 @@ fn push_of_meetings(
         } => {
             let (min, max) = (*min, *max);
             let slots = span_slots(*span, slots.numbers(), key);
-            let counted = ca4_games(alloc, season.games, *side, teams1, teams2, slots)?;
-            push_by_games(Entry { key, min, max }, counted, reasons)
+            let test = GameTest::Ca4 {
+                side: *side,
+                teams1,
+                teams2,
+                slots,
+            };
+            push_by_test(season, &test, Entry { key, min, max }, reasons)
         }
         Class::Ga1 {
             meetings,
@@ -148,8 +172,9 @@ fn push_of_meetings(
             slots,
         } => {
             let (min, max) = (*min, *max);
-            let counted = ga1_games(alloc, season.games, meetings, slots.numbers())?;
-            push_by_games(Entry { key, min, max }, counted, reasons)
+            let slots = slots.numbers();
+            let test = GameTest::Ga1 { meetings, slots };
+            push_by_test(season, &test, Entry { key, min, max }, reasons)
         }
         _ => unreachable!(),
     }

@@ -8,6 +8,7 @@
 mod bounded;
 mod breaks;
 mod classes;
+mod game_test;
 mod gaps;
 mod leads;
 mod listed;

@@ -3,9 +3,10 @@ ghost use Rattle.std.specs.Prelude.{◌≡◌, ◌<◌, [], slice_index_or, IfOk
 ghost use Rattle.reasons.specs.Own as own;
 ghost use Rattle.reasons.specs.Own.{IsSeason};
 
+use crate::game_test::GameTest;
+use crate::listed::games_that_pass;
 use crate::reason::GameList;
-use crate::tests_of_games::is_on;
-use league::{Game, Side};
+use league::Game;
 use rule_core::Cells;
 use std::alloc::{AllocError, Global};
 use std::marker::Model;
@@ -37,7 +38,8 @@ impl TeamGames {
     {
         let mut lists = Vec::new(alloc);
         for team in 0..n {
-            lists.push(own_games(alloc, games, team)?)?;
+            let test = GameTest::Own { team };
+            lists.push(games_that_pass(alloc, games, &test)?)?;
         }
         Ok(TeamGames { lists })
     }
@@ -51,17 +53,6 @@ impl TeamGames {
             None => &[],
         }
     }
-}
-
-/// The games of a team.
-fn own_games(alloc: Global, games: &[Game], team: u16) -> Result<GameList, AllocError>
-    ensures { IfOk result (λ list. list ≡ own.own_games games.now team) }
-{
-    let played = games.iter().copied();
-    let played = played.filter(|game| is_on(Side::Both, *game, team));
-    Ok(GameList {
-        games: played.collect(alloc)?,
-    })
 }
 
 /// A season: the counts of its games, the games in order, and those of each team.

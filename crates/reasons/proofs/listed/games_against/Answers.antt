@@ -11,7 +11,7 @@ returns c =
     let side = c.args.player.side in
     let i : ℕ = c.args.player.team in
     let others : List ℕ = c.args.others.now in
-    subst (λ (games : List Game). IfOk c.against_among.result (λ list. list ≡ games))
+    subst (λ (games : List Game). IfOk c.games_that_pass.result (λ list. list ≡ games))
     (ap (filter (λ g. plays_against side others g i)) c.of_team.ensures
     ∙ filter-within (λ g. plays_against side others g i) (λ g. plays_on Both g i) (λ g. against-plays side others g i) c.args.season.now.games.now)
-    c.against_among.ensures
+    c.games_that_pass.ensures

@@ -11,7 +11,7 @@ pub returns : goal.returns
 returns c =
     let i : ℕ = c.args.team.0 in
     let slot : ℕ = c.args.slot in
-    subst (λ (games : List Game). IfOk c.home_among.result (λ list. list ≡ games))
+    subst (λ (games : List Game). IfOk c.games_that_pass.result (λ list. list ≡ games))
     (ap (filter (counts_in_fa2 i slot)) c.of_team.ensures
     ∙ filter-within (counts_in_fa2 i slot) (λ g. plays_on Both g i) (home-plays i slot) c.args.season.now.games.now)
-    c.home_among.ensures
+    c.games_that_pass.ensures

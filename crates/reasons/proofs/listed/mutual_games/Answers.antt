@@ -10,7 +10,7 @@ use Rattle.reasons.proofs.listed.mutual_games.Goals as goal
 pub returns : goal.returns
 returns c =
     let p : ℕ × ℕ = (c.args.first.0, c.args.second.0) in
-    subst (λ (games : List Game). IfOk c.mutual_among.result (λ list. list ≡ games))
+    subst (λ (games : List Game). IfOk c.games_that_pass.result (λ list. list ≡ games))
     (ap (filter (counts_in_se1 p)) c.of_team.ensures
     ∙ filter-within (counts_in_se1 p) (λ g. plays_on Both g p.0) (mutual-plays p) c.args.season.now.games.now)
-    c.mutual_among.ensures
+    c.games_that_pass.ensures
