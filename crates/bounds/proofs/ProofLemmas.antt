@@ -1,6 +1,6 @@
 -- What the answers say of a league and a schedule.
 use Rattle.std.proofs.Common.{◌≡◌, ◌⊎◌, ℕ, ◌-◌, ◌*◌, ◌^◌, ◌<◌, ◌≤◌, Bool, false, List, [], ◌∷◌}
-use Rattle.std.proofs.Common.{get_or, Option, refl, sym, ap, subst, ◌∙◌, arith, lit<}
+use Rattle.std.proofs.Common.{get_or, IfOk, Option, Result, Ok, Err, refl, sym, ap, subst, ◌∙◌, arith, lit<}
 use Rattle.std.proofs.Math.Nat.{mul-le-mul}
 use Rattle.std.proofs.lemmas.List.Elements.{All-head, All-nil, All-tail, All-weaker}
 use Rattle.std.specs.List.{All}
@@ -173,6 +173,23 @@ pub proved-by : (league : Instance) (m : Counts) (limits : Option ℕ → Type 0
     → IsProvedBy league m limits may_stop proved
 proved-by league m limits may_stop cost proved costs settled (limit, is, sought) =
     (limit, is, proved-of league m limit may_stop cost proved costs settled sought)
+
+-- the same of an answer for which memory may have run out
+pub proved-said : {E : Type 0} (league : Instance) (m : Counts) (limits : Option ℕ → Type 0) (may_stop : Type 0)
+    (cost : ℕ) (result : Result Proved E) → objective league m ≡ cost
+    → may_stop ⊎ IsSettled league.n league.phased (league_score league) m
+    → IfOk result (IsSoughtBy league cost limits) → IfOk result (IsProvedBy league m limits may_stop)
+proved-said league m limits may_stop cost (Ok proved) costs settled sought =
+    proved-by league m limits may_stop cost proved costs settled sought
+proved-said league m limits may_stop cost (Err memory) costs settled sought = sought
+
+-- what holds for every limit holds for one that is kept to
+pub sought-of : {E : Type 0} (league : Instance) (bound : ℕ) (limits : Option ℕ → Type 0) (limit : Option ℕ)
+    → limits limit → (result : Result Proved E)
+    → IfOk result (λ proved. (limit : Option ℕ) → IsSought league bound limit proved)
+    → IfOk result (IsSoughtBy league bound limits)
+sought-of league bound limits limit is (Ok proved) sought = (limit, is, sought limit)
+sought-of league bound limits limit is (Err memory) sought = sought
 
 -- what a search answers is over the rows and the variables that it was given
 pub answer-of : (league : Instance) (bound vars : ℕ) (rows : List Row) (limit : Option ℕ) (answer : Found)

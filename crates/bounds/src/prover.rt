@@ -5,7 +5,7 @@ ghost use Rattle.std.specs.List.{All};
 ghost use Rattle.league.specs.Accepted.{IsAccepted};
 ghost use Rattle.league.specs.Accepted as costs;
 ghost use Rattle.league.specs.Counts.{counts_of};
-ghost use Rattle.league.specs.Instance.{IsGame};
+ghost use Rattle.league.specs.Instance.{IsGame, IsInstance};
 ghost use Rattle.rows.specs.Rows.{SatisfiesAll};
 ghost use Rattle.rows.specs.Values.{assigned};
 ghost use Rattle.bound_rows.specs.BoundRows.{bound_rows, bound_vars};
@@ -15,7 +15,7 @@ ghost use Rattle.robin_watch.specs.Limits.{IsKeptTo};
 ghost use Rattle.bounds.specs.Proofs.{IsProvedBy, IsSought, IsSoughtBy};
 
 use crate::proved::Proved;
-use bound_rows::bound_system;
+use bound_rows::{BoundSystem, bound_system};
 use clause_search::{Found, search_watched};
 use decoding::decode_games;
 use league::{League, Schedule};
@@ -71,8 +71,7 @@ pub fn prove<W: Watch>(
     if lower.objective < u128::from(objective) {
         return Ok(bettered(lower));
     }
-    let proved = searched(alloc, league, objective, conflicts, counted.terms, watch)?;
-    Ok(proved)
+    searched(alloc, league, objective, conflicts, counted.terms, watch)
 }
 
 /// Searches for a schedule that the league accepts and that costs less than a bound, shows that there is none, or spends
@@ -98,8 +97,7 @@ pub fn prove_bound<W: Watch>(
     if bound == 0 {
         return Ok(least_of_all(alloc));
     }
-    let proved = searched(alloc, league, bound, conflicts, terms, watch)?;
-    Ok(proved)
+    searched(alloc, league, bound, conflicts, terms, watch)
 }
 
 /// A number that 64 bits hold.
@@ -151,12 +149,26 @@ fn searched<W: Watch>(
 {
     watch.tell(News::Bound { objective });
     let system = bound_system(alloc, league, objective - 1, terms)?;
+    answer_over(alloc, league, &system, objective, conflicts, watch)
+}
+
+/// The answer of a search over these bound rows of one less than an objective.
+fn answer_over<W: Watch>(
+    alloc: Global,
+    league: &League,
+    system: &BoundSystem,
+    objective: u64,
+    conflicts: Option<u64>,
+    watch: &W,
+) -> Result<Proved, AllocError>
+    requires some { 1 ≤ objective }
+    requires instance { IsInstance league.now }
+    requires system { system.now ≡ record { league = league.now; bound = objective - 1 } }
+    ensures { IfOk result (IsSoughtBy league.now objective (IsKeptTo conflicts (W.may_stop watch.now))) }
+{
     let found = search_watched(alloc, system.rows(), system.vars(), &[], conflicts, watch)?;
     match found {
-        Found::Sat(values) => {
-            let proved = decoded(alloc, league, &values, objective, watch)?;
-            Ok(proved)
-        }
+        Found::Sat(values) => decoded(alloc, league, &values, objective, watch),
         Found::Refuted(log) => Ok(Proved::Least { objective, log }),
         Found::Spent(log) => Ok(Proved::Spent { log }),
     }

@@ -1,15 +1,14 @@
 -- How the stages of `bound` make an answer.
-use Rattle.std.proofs.Common.{◌≡◌, ℕ, ◌+◌, ◌<◌, ◌≤◌, List, length, Option, Ok, Err, codes, inl, inr, ap, sym, ◌∙◌, Result}
+use Rattle.std.proofs.Common.{◌≡◌, ℕ, ◌+◌, ◌≤◌, List, length, Option, Ok, Err, codes, inl, inr, ap, sym, ◌∙◌, Result}
 use Rattle.std.proofs.Common.{refl, subst}
 use Rattle.robin_io.specs.Outside.{Store}
 use Rattle.league.specs.Instance.{Instance}
 use Rattle.robinx_tags.specs.Pieces.{pieces}
 use Rattle.robinx_form.specs.InstanceFile.{instance_of}
 use Rattle.robinx_read.specs.declared.instance.TheConstants.{INSTANCE_LIMIT}
-use Rattle.answers.specs.Reply.{Answer, too_large}
-use Rattle.answers.specs.SeenReply as seen
+use Rattle.answers.specs.Reply.{Answer}
 use Rattle.answers.specs.SeenReply.{Answers, MatchStage}
-use Rattle.answers.specs.Stages.{IsFile, IsUnread, Outcome, says, takes}
+use Rattle.answers.specs.Stages.{IsFile, IsUnread, Outcome, takes}
 use Rattle.answers.specs.declared.reply.NoValue.{NoValue}
 use Rattle.answers.specs.declared.reply.NoValue.TheVariants.{Refused, Memory, Room}
 use Rattle.answers.specs.declared.status.Status.TheVariants.{Yes}
@@ -25,6 +24,8 @@ use Rattle.bounds.specs.declared.certificate.Certificate.{Certificate}
 use Rattle.command_prove.specs.Bound.{IsBoundVerdict, IsWithinRoom, ReadCertificate, bound_answer, bound_verdict, bounded}
 use Rattle.command_prove.specs.Bound.{has_few_terms, says_certificate}
 use Rattle.command_prove.specs.Faults.{IsMalformed}
+use Rattle.command_prove.specs.Measured.{IsUnmeasured}
+use Rattle.command_prove.proofs.MeasureLemmas.{unmeasured-ends}
 use Rattle.encoding.specs.Limit.{most_terms}
 
 -- ---- stages
@@ -52,15 +53,14 @@ log_stages store room log front league =
     (store.took_more (front + most_log_bytes)) (store.failed log)
     (λ bytes. says_certificate (certificate_of bytes) (IsBoundVerdict league room)))
 
--- the instance file has a fault of form
-pub bounded-faulty : (store : Store) (room : Option ℕ) (instance log first : List ℕ)
-    → IsFile (store.contents instance) INSTANCE_LIMIT first → (answer : Answer)
-    → seen.IsMalformed (codes "instance") (instance_of (pieces first)) answer → bounded store room instance log answer
-bounded-faulty store room instance log first is_first answer (fault, said, is) = inl (
-  first,
-  is_first,
-  subst (λ r. says (codes "instance") r (log_stages store room log (length first)) answer) (sym said) is,
-)
+-- the league is refused
+pub bounded-unmeasured : (store : Store) (room : Option ℕ) (instance log : List ℕ) (answer : Answer)
+    → IsUnmeasured store instance answer → bounded store room instance log answer
+bounded-unmeasured store room instance log answer ends =
+    unmeasured-ends store instance
+    (λ first league. takes (codes "log") (store.contents log) most_log_bytes
+    (store.took_more (length first + most_log_bytes)) (store.failed log)
+    (λ bytes. says_certificate (certificate_of bytes) (IsBoundVerdict league room))) answer ends
 
 module _ (store : Store) (room : Option ℕ) (instance log first : List ℕ) (league : Instance)
     (is_first : IsFile (store.contents instance) INSTANCE_LIMIT first) (says_league : instance_of (pieces first) ≡ Ok league)
@@ -74,11 +74,6 @@ module _ (store : Store) (room : Option ℕ) (instance log first : List ℕ) (le
       says-value (codes "instance") (instance_of (pieces first)) league
           (log_stages store room log (length first)) answer says_league rest,
     )
-
-    -- the bound rows of the league have too many terms
-    pub bounded-large : (answer : Answer) → (most_terms < bound_size league) × (answer ≡ too_large (bound_size league))
-        → bounded store room instance log answer
-    bounded-large answer large = after-league answer (inr large)
 
     -- the certificate isn't read
     pub bounded-unread : bound_size league ≤ most_terms → (answer : Answer)

@@ -1,3 +1,5 @@
+-- How a league is read and measured:
+mod MeasureLemmas
 -- The stages of `bound`, what follows from an answer, and what an accepted certificate shows:
 pub mod BoundStages
 pub mod BoundAnswers

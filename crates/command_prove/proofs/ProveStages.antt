@@ -1,5 +1,5 @@
 -- How the stages of `prove` make an answer.
-use Rattle.std.proofs.Common.{◌≡◌, ℕ, ◌+◌, ◌<◌, ◌≤◌, List, length, Ok, codes, inl, inr, subst, sym}
+use Rattle.std.proofs.Common.{◌≡◌, ℕ, ◌+◌, ◌≤◌, List, length, Ok, codes, inl, inr}
 use Rattle.robin_io.specs.Outside.{Store}
 use Rattle.league.specs.Instance.{Instance}
 use Rattle.league.specs.declared.game.Game.{Game}
@@ -7,13 +7,14 @@ use Rattle.robinx_tags.specs.Pieces.{pieces}
 use Rattle.robinx_form.specs.InstanceFile.{instance_of}
 use Rattle.robinx_form.specs.SolutionFile.{solution_of}
 use Rattle.robinx_read.specs.declared.instance.TheConstants.{INSTANCE_LIMIT, SOLUTION_LIMIT}
-use Rattle.answers.specs.Reply.{Answer, too_large}
-use Rattle.answers.specs.SeenReply.{IsMalformed}
+use Rattle.answers.specs.Reply.{Answer}
 use Rattle.answers.specs.Stages.{IsFile, IsUnread, Outcome, says, takes}
 use Rattle.answers.proofs.StageLemmas.{says-value}
 use Rattle.bound_rows.specs.BoundRows.{bound_size}
 use Rattle.command_prove.specs.Bound.{has_few_terms}
+use Rattle.command_prove.specs.Measured.{IsUnmeasured}
 use Rattle.command_prove.specs.Prove.{proved}
+use Rattle.command_prove.proofs.MeasureLemmas.{unmeasured-ends}
 use Rattle.encoding.specs.Limit.{most_terms}
 
 -- the stages behind the instance file, whose bytes were so many
@@ -37,15 +38,14 @@ after-league store instance solution shown first league is_first says_league ans
           (solution_stages store solution shown (length first)) answer says_league rest,
     )
 
--- the bound rows of the league have too many terms
-pub proved-large : (store : Store)
-    (instance solution : List ℕ) (shown : Instance → List Game → Outcome) (first : List ℕ) (league : Instance)
-    → IsFile (store.contents instance) INSTANCE_LIMIT first → instance_of (pieces first) ≡ Ok league → (answer : Answer)
-    → (most_terms < bound_size league) × (answer ≡ too_large (bound_size league))
-    → proved store instance solution shown answer
-proved-large store instance solution shown first league is_first says_league answer large =
-    after-league store instance solution shown first league is_first says_league answer
-    (inr large)
+-- the league is refused
+pub proved-unmeasured : (store : Store) (instance solution : List ℕ) (shown : Instance → List Game → Outcome)
+    (answer : Answer) → IsUnmeasured store instance answer → proved store instance solution shown answer
+proved-unmeasured store instance solution shown answer ends =
+    unmeasured-ends store instance
+    (λ first league. takes (codes "solution") (store.contents solution) SOLUTION_LIMIT
+    (store.took_more (length first + SOLUTION_LIMIT)) (store.failed solution)
+    (λ bytes. says (codes "solution") (solution_of league.n (pieces bytes)) (shown league))) answer ends
 
 -- the solution isn't read
 pub proved-unread : (store : Store)
@@ -71,16 +71,3 @@ proved-last store instance solution shown first second league is_first says_leag
     is_second answer last =
     after-league store instance solution shown first league is_first says_league answer
     (inl (small, inl (second, is_second, last)))
-
--- the solution has a fault of form
-pub proved-malformed : (store : Store)
-    (instance solution : List ℕ) (shown : Instance → List Game → Outcome) (first second : List ℕ)
-    (league : Instance)
-    → IsFile (store.contents instance) INSTANCE_LIMIT first → instance_of (pieces first) ≡ Ok league
-    → bound_size league ≤ most_terms → IsFile (store.contents solution) SOLUTION_LIMIT second → (answer : Answer)
-    → IsMalformed (codes "solution") (solution_of league.n (pieces second)) answer
-    → proved store instance solution shown answer
-proved-malformed store instance solution shown first second league is_first says_league small is_second answer
-    (fault, said, is) =
-    proved-last store instance solution shown first second league is_first says_league small is_second answer
-    (subst (λ r. says (codes "solution") r (shown league) answer) (sym said) is)

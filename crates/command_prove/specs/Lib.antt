@@ -8,4 +8,5 @@ pub mod Prove
 pub mod Floor
 -- Kept inside (laws, and how fields are seen):
 pub mod Faults
+pub mod Measured
 pub mod Told

@@ -11,7 +11,8 @@ ghost use Rattle.command_prove.specs.Faults.{IsMalformed};
 ghost use Rattle.encoding.specs.Limit.{most_terms};
 
 use crate::bound_replies::judge;
-use answers::{NoValue, Reply, file, league_in, log_refused, rows_refused};
+use crate::measured::{Measured, measured_in};
+use answers::{NoValue, Reply, file, log_refused, rows_refused};
 use bound_rows::bound_terms;
 use bounds::{Certificate, read_certificate};
 use command_check::LOG_LIMIT;
@@ -81,9 +82,7 @@ fn claim_in<S: Shelf>(
     ensures taken { S.taken shelf.new ≤ S.taken shelf.old + (INSTANCE_LIMIT + 1 + (LOG_LIMIT + 1)) }
     ensures contents { (n : List ℕ) → S.contents shelf.new n ≡ S.contents shelf.old n }
 {
-    let first = file(alloc, shelf, "instance", instance, INSTANCE_LIMIT)?;
-    let league = league_in(alloc, instance, &first)?;
-    let terms = few_terms(alloc, &league)?;
+    let Measured { league, terms } = measured_in(alloc, shelf, instance)?;
     let second = file(alloc, shelf, "log", log, LOG_LIMIT)?;
     let certificate = certificate_in(alloc, log, &second)?;
     Ok(Claim {

@@ -38,6 +38,5 @@ pub fn check_bound(
         PassesRoom (bound_rows league.now (bound - 1)) (bound_vars league.now) limit log.now }
 {
     let system = bound_system(alloc, league, bound - 1, terms)?;
-    let verdict = check_within(alloc, system.rows(), system.vars(), log, limit)?;
-    Ok(verdict)
+    check_within(alloc, system.rows(), system.vars(), log, limit)
 }

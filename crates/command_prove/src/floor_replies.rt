@@ -11,9 +11,9 @@ ghost use Rattle.bounds.specs.Certificates as certificates;
 ghost use Rattle.command_prove.specs.Floor.{reached_text};
 ghost use Rattle.command_prove.specs.Told.{CanBeWritten, TellsFloor, TellsMissed};
 
-use crate::prove_replies::{better_reply, spent_reply};
+use crate::prove_replies::{better_reply, floor_text, spent_reply};
 use answers::{Reply, Status};
-use bounds::{Counted, Proved, certificate_text};
+use bounds::{Counted, Proved};
 use league::League;
 use plane_floors::best_floor;
 use refutation::Log;
@@ -39,10 +39,7 @@ fn reached_reply(alloc: Global, cost: u128, bound: u64, log: &Log) -> Result<Rep
     ensures reads_back { IfOk result (λ _. HasShortLines log.now → (bound ≡ 0 → log.now ≡ [])
         → certificate_of (certificates.certificate_text bound log.now) ≡ Ok (record { bound = bound; log = log.now })) }
 {
-    let line = format!(in alloc; "objective {cost}\n")?;
-    let certificate = certificate_text(alloc, bound, log)?;
-    let mut text = line.into_bytes();
-    text.extend_from_slice(&certificate)?;
+    let text = floor_text(alloc, cost, bound, log)?;
     Ok(Reply {
         status: Status::Yes,
         text,

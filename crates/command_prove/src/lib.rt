@@ -11,6 +11,7 @@ mod bound_replies;
 mod bound_stages;
 mod checked;
 mod floor_replies;
+mod measured;
 mod prove_replies;
 mod prove_stages;
 

@@ -11,6 +11,7 @@ ghost use Rattle.bounds.specs.Certificates.{certificate_of};
 ghost use Rattle.bounds.specs.Certificates as certificates;
 ghost use Rattle.refutation.specs.Logs.{log_of};
 ghost use Rattle.refutation.specs.Texts as logs;
+ghost use Rattle.command_prove.specs.Floor.{reached_text};
 ghost use Rattle.command_prove.specs.Prove.{spent_text};
 ghost use Rattle.command_prove.specs.Told.{CanBeWritten, Tells, TellsFloored, TellsLeast};
 
@@ -53,6 +54,27 @@ pub(crate) fn better_reply(
     })
 }
 
+/// A schedule's objective, and a certificate of a floor.
+pub(crate) fn floor_text(
+    alloc: Global,
+    cost: u128,
+    bound: u64,
+    log: &Log,
+) -> Result<Vec<u8>, AllocError>
+    requires { All NamesRows log.now }
+    ensures text { IfOk result (λ text. text.items ≡ reached_text cost bound log.now) }
+
+    // What is written of the floor reads back, if none of its lines is too long.
+    ensures reads_back { IfOk result (λ _. HasShortLines log.now → (bound ≡ 0 → log.now ≡ [])
+        → certificate_of (certificates.certificate_text bound log.now) ≡ Ok (record { bound = bound; log = log.now })) }
+{
+    let line = format!(in alloc; "objective {cost}\n")?;
+    let certificate = certificate_text(alloc, bound, log)?;
+    let mut text = line.into_bytes();
+    text.extend_from_slice(&certificate)?;
+    Ok(text)
+}
+
 /// A schedule's objective, a certificate of a floor, and a log that is spent.
 pub(crate) fn spent_reply(
     alloc: Global,
@@ -74,12 +96,8 @@ pub(crate) fn spent_reply(
         ≡ Ok (record { bound = floor.now.bound; log = floor.now.log })) }
     ensures reads_back { IfOk result (λ _. HasShortLines log.now → log_of (logs.log_text log.now) ≡ Ok log.now) }
 {
-    let line = format!(in alloc; "objective {cost}\n")?;
-    let certificate = certificate_text(alloc, floor.bound, &floor.log)?;
-    let steps = log_text(alloc, log)?;
-    let mut text = line.into_bytes();
-    text.extend_from_slice(&certificate)?;
-    text.extend_from_slice(&steps)?;
+    let mut text = floor_text(alloc, cost, floor.bound, &floor.log)?;
+    text.extend_from_slice(&log_text(alloc, log)?)?;
     Ok(Reply {
         status: Status::Spent,
         text,

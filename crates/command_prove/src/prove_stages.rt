@@ -1,21 +1,24 @@
 //! The stages of `prove`.
-ghost use Rattle.std.specs.Prelude.{◌≡◌, ◌+◌, ◌≤◌, ℕ, List, IfOk, length, min};
+ghost use Rattle.std.specs.Prelude.{◌≡◌, ◌+◌, ◌≤◌, ℕ, List, IfOk, codes, length, min};
 ghost use Rattle.std.specs.List.{All};
 ghost use Rattle.robin_io.specs.Outside.{store_between};
 ghost use Rattle.league.specs.Accepted.{IsAccepted, objective};
 ghost use Rattle.league.specs.Counts.{counts_of};
 ghost use Rattle.league.specs.Instance.{IsGame};
 ghost use Rattle.league.specs.declared.game.Game.{Game};
+ghost use Rattle.robinx_tags.specs.Pieces.{pieces};
+ghost use Rattle.robinx_form.specs.SolutionFile.{solution_of};
 ghost use Rattle.answers.specs.SeenReply.{answer_of, Answers};
+ghost use Rattle.answers.specs.Stages.{says};
 ghost use Rattle.bound_rows.specs.Bounded.{IsCounted};
 ghost use Rattle.robin_watch.specs.Limits.{IsKeptTo};
 ghost use Rattle.command_prove.specs.Floor.{IsFloorShownBy, IsShownWith};
 ghost use Rattle.command_prove.specs.Prove.{IsShownBy, proved};
 
-use crate::bound_stages::few_terms;
 use crate::floor_replies::{Sought, floor_reply};
+use crate::measured::{Measured, measured_in};
 use crate::prove_replies::proof_reply;
-use answers::{NoValue, Reply, file, league_in, schedule_in};
+use answers::{NoValue, Reply, file, schedule_in};
 use bounds::{Counted, prove, prove_bound};
 use command_validate::judgement;
 use deviation::assess;
@@ -32,6 +35,33 @@ pub struct Aim {
     pub floor: Option<u64>,
     /// How many clauses the search may learn, or any number of them.
     pub conflicts: Option<u64>,
+}
+
+/// Answers what is shown of the schedule of a file's bytes.
+fn show_file<W: Watch>(
+    alloc: Global,
+    name: &str,
+    bytes: &[u8],
+    measured: &Measured,
+    aim: Aim,
+    watch: &W,
+) -> Result<Reply, NoValue>
+    requires within { length bytes.now ≤ SOLUTION_LIMIT }
+    requires counted { IsCounted measured.now.league measured.now.terms }
+    ensures { Answers
+        (says (codes "solution") (solution_of measured.now.league.n (pieces bytes.now))
+        (IsShownWith aim.floor (IsKeptTo aim.conflicts (W.may_stop watch.now)) (W.may_stop watch.now)
+        measured.now.league)) result }
+{
+    let schedule = schedule_in(alloc, name, bytes, &measured.league)?;
+    Ok(show(
+        alloc,
+        &measured.league,
+        &schedule,
+        aim,
+        measured.terms,
+        watch,
+    )?)
 }
 
 /// Answers what is shown of a schedule. It is assessed once.
@@ -134,11 +164,7 @@ pub fn prove_file<S: Shelf, W: Watch>(
     ensures taken { S.taken shelf.new ≤ S.taken shelf.old + (INSTANCE_LIMIT + 1 + (SOLUTION_LIMIT + 1)) }
     ensures contents { (n : List ℕ) → S.contents shelf.new n ≡ S.contents shelf.old n }
 {
-    let first = file(alloc, shelf, "instance", instance, INSTANCE_LIMIT)?;
-    let league = league_in(alloc, instance, &first)?;
-    let terms = few_terms(alloc, &league)?;
+    let measured = measured_in(alloc, shelf, instance)?;
     let second = file(alloc, shelf, "solution", solution, SOLUTION_LIMIT)?;
-    let schedule = schedule_in(alloc, solution, &second, &league)?;
-    let reply = show(alloc, &league, &schedule, aim, terms, watch)?;
-    Ok(reply)
+    show_file(alloc, solution, &second, &measured, aim, watch)
 }

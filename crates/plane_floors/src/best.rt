@@ -1,5 +1,5 @@
 //! The best floor that is found.
-ghost use Rattle.std.specs.Prelude.{IfOk};
+ghost use Rattle.std.specs.Prelude.{IfOk, IfSome};
 ghost use Rattle.bound_rows.specs.Bounded.{IsCounted};
 ghost use Rattle.floors.specs.Floors.{IsFloor};
 
@@ -34,16 +34,32 @@ pub fn best_floor<W: Watch>(
     ensures { IfOk result (IsFloor league.now) }
 {
     let floor = floor_of(alloc, league, terms)?;
-    let limit = conflicts.unwrap_or(MOST_ROWS).min(MOST_ROWS);
-    if sought <= u128::from(floor.bound) || terms > MOST_TERMS || limit == 0 {
-        return Ok(floor);
-    }
-    let Ok(bound) = u64::try_from(sought) else {
-        return Ok(floor);
+    // Where the floor is no less than the number, or the rows are too many, no search is made.
+    let limit = if u128::from(floor.bound) < sought && terms <= MOST_TERMS {
+        conflicts.unwrap_or(MOST_ROWS).min(MOST_ROWS)
+    } else {
+        0
     };
-    let found = plane_floor(alloc, league, bound, terms, limit, watch)?;
-    if let Some(higher) = found {
-        return Ok(higher);
+    let found = searched_floor(alloc, league, sought, terms, limit, watch)?;
+    Ok(found.unwrap_or(floor))
+}
+
+/// The floor at a number, if a search that learns at most so many rows finds it. One that may learn none finds none.
+fn searched_floor<W: Watch>(
+    alloc: Global,
+    league: &League,
+    sought: u128,
+    terms: u64,
+    limit: u64,
+    watch: &W,
+) -> Result<Option<Floor>, AllocError>
+    requires { IsCounted league.now terms }
+    ensures { IfOk result (λ found. IfSome found (IsFloor league.now)) }
+{
+    match u64::try_from(sought) {
+        Ok(bound) if bound > 0 && limit > 0 => plane_floor(
+            alloc, league, bound, terms, limit, watch,
+        ),
+        _ => Ok(None),
     }
-    Ok(floor)
 }

@@ -1,8 +1,9 @@
 //! A floor that is searched.
-ghost use Rattle.std.specs.Prelude.{◌≡◌, ◌≤◌, IfOk, IfSome};
+ghost use Rattle.std.specs.Prelude.{◌≡◌, ◌≤◌, IfOk, IfSome, Some};
 ghost use Rattle.bound_rows.specs.Bounded.{IsCounted};
 ghost use Rattle.bound_rows.specs.BoundRows.{bound_rows, bound_vars};
 ghost use Rattle.floors.specs.Floors.{IsFloor};
+ghost use Rattle.refutation.specs.Writable.{HasShortLines};
 ghost use Rattle.planes.specs.Refuted.{IsRefutation};
 
 use crate::bytes::can_be_read;
@@ -36,13 +37,18 @@ pub fn plane_floor<W: Watch>(
 {
     let system = bound_system(alloc, league, bound - 1, terms)?;
     let found = readable(alloc, league, &system, limit, watch)?;
-    let Some(log) = found else {
-        return Ok(None);
-    };
+    Ok(floor_with(bound, found))
+}
+
+/// The floor that a log proves, if there is one whose text can be written.
+fn floor_with(bound: u64, found: Option<Log>) -> Option<Floor>
+    ensures { IfSome result (λ floor. (found ≡ Some floor.log) × HasShortLines floor.log × (floor.bound ≡ bound)) }
+{
+    let log = found?;
     if has_short_lines(&log) {
-        Ok(Some(Floor { bound, log }))
+        Some(Floor { bound, log })
     } else {
-        Ok(None)
+        None
     }
 }
 
@@ -59,20 +65,22 @@ fn readable<W: Watch>(
         (bound_rows system.now.league system.now.bound) (bound_vars system.now.league))) }
 {
     let first = searched(alloc, league, system, limit, true, watch)?;
-    let Some(log) = first else {
-        return Ok(None);
-    };
-    if can_be_read(&log) {
-        return Ok(Some(log));
+    if !is_long(&first) {
+        return Ok(first);
     }
     let second = searched(alloc, league, system, limit, false, watch)?;
-    let Some(log) = second else {
+    if is_long(&second) {
         return Ok(None);
-    };
-    if can_be_read(&log) {
-        return Ok(Some(log));
     }
-    Ok(None)
+    Ok(second)
+}
+
+/// Whether a log is found whose text is too long to be read.
+fn is_long(found: &Option<Log>) -> bool {
+    match found {
+        Some(log) => !can_be_read(log),
+        None => false,
+    }
 }
 
 /// A log that refutes bound rows, if a search finds one, which begins with the rows of venues or without them.
@@ -89,6 +97,5 @@ fn searched<W: Watch>(
 {
     let rows = system.rows();
     let start = start_of(alloc, league, rows.len() as u64, venues)?;
-    let found = refute(alloc, rows, system.vars(), start, limit, watch)?;
-    Ok(found)
+    refute(alloc, rows, system.vars(), start, limit, watch)
 }

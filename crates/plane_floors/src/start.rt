@@ -44,30 +44,20 @@ fn add_laws(
     writer: &mut Writer,
     derived: &mut Vec<Derived>,
 ) -> Result<(), AllocError> {
-    let n = league.n();
     let frame = Frame::new(league);
-    let half = n - 1;
-    if !league.phased() {
-        let season = Stretch {
-            first: 0,
-            count: frame.slots,
-        };
-        let law = law_of(alloc, writer, frame, season)?;
-        derived.push(law)?;
-        return Ok(());
-    }
+    let half = league.n() - 1;
     let first = Stretch {
         first: 0,
-        count: half,
+        count: if league.phased() { half } else { frame.slots },
     };
-    let second = Stretch {
-        first: half,
-        count: half,
-    };
-    let law = law_of(alloc, writer, frame, first)?;
-    derived.push(law)?;
-    let law = law_of(alloc, writer, frame, second)?;
-    derived.push(law)?;
+    derived.push(law_of(alloc, writer, frame, first)?)?;
+    if league.phased() {
+        let second = Stretch {
+            first: half,
+            count: half,
+        };
+        derived.push(law_of(alloc, writer, frame, second)?)?;
+    }
     Ok(())
 }
 
@@ -81,11 +71,34 @@ fn law_of(
     requires some { 1 ≤ stretch.count }
     requires within { stretch.first + stretch.count ≤ frame.slots }
 {
+    let number = law_row(alloc, writer, frame, stretch)?;
+    Ok(Derived {
+        lits: breaks_in(alloc, frame, stretch)?,
+        degree: u64::from(frame.n).saturating_sub(2),
+        number,
+    })
+}
+
+/// Writes the rows of the law of a stretch, and gives the number of their sum.
+fn law_row(
+    alloc: Global,
+    writer: &mut Writer,
+    frame: Frame,
+    stretch: Stretch,
+) -> Result<u64, AllocError>
+    requires some { 1 ≤ stretch.count }
+    requires within { stretch.first + stretch.count ≤ frame.slots }
+{
     let teams = all_teams(alloc, frame.n)?;
     let home = add_clique(alloc, writer, frame, stretch, true, &teams)?;
     let away = add_clique(alloc, writer, frame, stretch, false, &teams)?;
-    let parts = [home, away].map(|row| Part { factor: 1, row });
-    let number = writer.sum(&parts, 1)?;
+    sum_of_two(writer, home, away)
+}
+
+/// The literals of the breaks of all teams in a stretch.
+fn breaks_in(alloc: Global, frame: Frame, stretch: Stretch) -> Result<Vec<Lit>, AllocError>
+    requires { stretch.first + stretch.count ≤ frame.slots }
+{
     let mut lits = Vec::new(alloc);
     for team in 0..frame.n {
         for slot in stretch.first + 1..stretch.first + stretch.count {
@@ -93,11 +106,7 @@ fn law_of(
             lits.push(Lit::new(ab_at(frame.n, team, slot), true))?;
         }
     }
-    Ok(Derived {
-        lits,
-        degree: u64::from(frame.n).saturating_sub(2),
-        number,
-    })
+    Ok(lits)
 }
 
 /// Writes of each team and slot that at most one is true of the home venue and the away games there.
@@ -127,9 +136,7 @@ fn venue_of(
     requires team { team < frame.n }
     requires slot { slot < frame.slots }
 {
-    let rows = [frame.venue(team, slot), frame.one_game(team, slot)];
-    let parts = rows.map(|row| Part { factor: 1, row });
-    let number = writer.sum(&parts, 1)?;
+    let number = sum_of_two(writer, frame.venue(team, slot), frame.one_game(team, slot))?;
     let mut lits = Vec::new(alloc);
     lits.push(Lit::new(h_at(frame.n, team, slot), false))?;
     for home in 0..frame.n {
@@ -142,6 +149,21 @@ fn venue_of(
         degree: u64::from(frame.n).saturating_sub(1),
         number,
     })
+}
+
+/// Writes the sum of two rows, and gives its number.
+fn sum_of_two(writer: &mut Writer, first: u64, second: u64) -> Result<u64, AllocError> {
+    let parts = [
+        Part {
+            factor: 1,
+            row: first,
+        },
+        Part {
+            factor: 1,
+            row: second,
+        },
+    ];
+    writer.sum(&parts, 1)
 }
 
 /// The teams of a league of n teams, by their numbers.

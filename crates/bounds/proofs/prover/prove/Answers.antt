@@ -5,7 +5,7 @@ use Rattle.robin_watch.specs.Limits.{IsKeptTo}
 use Rattle.solve.proofs.FewLemmas.{round_robin-few}
 use Rattle.bounds.specs.Proofs.{IsProved}
 use Rattle.bounds.specs.declared.proved.Proved.{Proved}
-use Rattle.bounds.proofs.ProofLemmas.{below-of, least_of_none, objective_small, proved-by}
+use Rattle.bounds.proofs.ProofLemmas.{below-of, least_of_none, objective_small, proved-said}
 use Rattle.bounds.proofs.prover.prove.Goals as goal
 
 pub in_64_bits-objective-requires : goal.in_64_bits-objective-requires
@@ -52,7 +52,7 @@ returns g c =
     let no_lower : objective c.args.league.now (counts_of c.args.schedule.now) ≤ c.in_ok-lower.lower.objective =
     omega (arith, c.if-lower-from.false, c.from.ensures, c.in_64_bits-objective.ensures, c.requires.assessed) in
     let may_stop = g.W.Watch.may_stop c.args.watch.now in
-    proved-by c.args.league.now (counts_of c.args.schedule.now) (IsKeptTo c.args.conflicts may_stop) may_stop _
-    c.in_ok-proved.proved
+    proved-said c.args.league.now (counts_of c.args.schedule.now) (IsKeptTo c.args.conflicts may_stop) may_stop _
+    c.searched.result
     (sym (c.in_64_bits-objective.ensures ∙ c.requires.assessed)) (c.in_ok-lower.ensures.settles (omega arith) no_lower)
-    c.in_ok-proved.ensures
+    c.searched.ensures

@@ -1,15 +1,4 @@
-use Rattle.std.proofs.Common.{◌≡◌, ℕ, List, Result, Ok, subst}
-use Rattle.refutation.specs.Logs.{Fault}
-use Rattle.refutation.specs.Steps.{Step}
-use Rattle.bounds.specs.Certificates.{certificate_of}
-use Rattle.bounds.specs.declared.certificate.Certificate.{Certificate}
 use Rattle.command_prove.proofs.prove_replies.spent_reply.Goals as goal
 
-abbrev certificate_said : ℕ → List Step → Result Certificate Fault
-certificate_said bound log = Ok (record { bound = bound; log = log })
-
 pub returns-clause-floor_reads_back : goal.returns-clause-floor_reads_back
-returns-clause-floor_reads_back c =
-    subst
-    (λ (text : List ℕ). certificate_of text ≡ certificate_said c.args.floor.now.bound c.args.floor.now.log)
-    c.in_ok-certificate.ensures.text (c.in_ok-certificate.ensures.reads_back c.requires.short c.requires.nothing)
+returns-clause-floor_reads_back c = c.in_ok-text.ensures.reads_back c.requires.short c.requires.nothing

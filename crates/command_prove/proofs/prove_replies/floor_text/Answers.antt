@@ -3,7 +3,7 @@ use Rattle.refutation.specs.Logs.{Fault}
 use Rattle.refutation.specs.Steps.{Step}
 use Rattle.bounds.specs.Certificates.{certificate_of}
 use Rattle.bounds.specs.declared.certificate.Certificate.{Certificate}
-use Rattle.command_prove.proofs.floor_replies.reached_reply.Goals as goal
+use Rattle.command_prove.proofs.prove_replies.floor_text.Goals as goal
 
 abbrev certificate_said : ℕ → List Step → Result Certificate Fault
 certificate_said bound log = Ok (record { bound = bound; log = log })
