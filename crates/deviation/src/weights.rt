@@ -94,9 +94,7 @@ fn vector<L>(
     ensures few { IfOk result (λ entries. length entries.items ≤ 1600) }
 {
     let rule = AnyRule::new(alloc, n, constraint)?;
-    let entries = entries_of(alloc, &rule, cells, steps);
-    drop(rule);
-    entries
+    entries_of(alloc, &rule, cells, steps)
 }
 
 /// The deviation of a constraint: the sum of its vector. It fits, as no list in memory has 2^64 entries.
