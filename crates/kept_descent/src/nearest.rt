@@ -54,7 +54,7 @@ pub fn descend_near<W: Watch>(
     descend_from(alloc, plan, start, &mut tally, &mut steps, watch)
 }
 
-/// Descends so from an accepted season whose games a tally has.
+/// Descends as `descend_near` does, from an accepted season whose games a tally has.
 ///
 /// # Errors
 /// Only where memory runs out.
@@ -128,7 +128,7 @@ pub fn is_settled<W: Watch>(
     is_settled_at(alloc, plan, season, &mut tally, &mut steps, watch)
 }
 
-/// Whether an accepted season whose games a tally has is known to be settled so.
+/// Whether an accepted season whose games a tally has is known to be settled, as `is_settled` says it.
 ///
 /// # Errors
 /// Only where memory runs out.
