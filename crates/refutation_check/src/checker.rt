@@ -34,7 +34,7 @@ pub struct Checker<'a> {
     rejection: Option<Rejection>,
 }
 
-impl Drop for Checker {
+impl Drop for Checker<'_> {
     fn drop(self) {
         let Checker {
             alloc: _,

@@ -4,7 +4,7 @@ use Rattle.deviation.specs.Assess.{AreWeightsOf, IsStructureOf}
 use Rattle.deviation.proofs.AssessLemmas.{accepted-counted}
 use Rattle.deviation.proofs.assessment.assess.Goals as goal
 
-weighed : (c : goal.After-drop-cells-inside-7) → AreWeightsOf c.args.league.now.n (counts_of c.args.schedule.now) c.args.league.now.constraints c.in_ok-weights.weights
+weighed : (c : goal.After-drop-cells-2) → AreWeightsOf c.args.league.now.n (counts_of c.args.schedule.now) c.args.league.now.constraints c.in_ok-weights.weights
 weighed c = subst (λ (m : Counts). AreWeightsOf c.args.league.now.n m c.args.league.now.constraints c.in_ok-weights.weights) (c.in_ok-cells.ensures.counts ∙ ap counts_of c.games.ensures) c.in_ok-weights.ensures
 
 pub returns-clause-vectors : goal.returns-clause-vectors
