@@ -2,7 +2,7 @@ use Rattle.std.proofs.Common.{◌≤◌, List, arith, subst, sym}
 use Rattle.std.specs.List.{All}
 use Rattle.std.proofs.lemmas.List.Elements.{All-push}
 use Rattle.refutation.specs.declared.step.Part.{Part}
-use Rattle.break_counts.proofs.log.log_over.Goals as goal
+use Rattle.break_counts.proofs.log.add_sum.Goals as goal
 
 pub loop-row-preserved : goal.loop-row-preserved
 loop-row-preserved c =
