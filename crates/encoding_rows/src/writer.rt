@@ -94,8 +94,8 @@ fn write_with(
     Ok(Written { rows, starts })
 }
 
-/// Adds the rows of a league, to none, with variables for breaks, if it is said so. It gives the places at which the rows
-/// of each constraint begin, soft ones too, and at the end the place behind the last row.
+/// Adds all rows of a league to a draft that has none, with variables for breaks, if it is said so. It gives the places
+/// at which the rows of each constraint begin, soft ones too, and at the end the place behind the last row.
 fn add_all_rows(
     draft: &mut Draft,
     alloc: Global,
