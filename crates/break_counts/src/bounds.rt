@@ -107,20 +107,30 @@ fn no_breaks(
 {
     let mut literals = Vec::new(alloc);
     if side != Side::A {
-        for team in teams {
-            for slot in slots {
-                add_break(&mut literals, n, *team, *slot, true)?;
-            }
-        }
+        add_breaks(&mut literals, n, teams, slots, true)?;
     }
     if side != Side::H {
-        for team in teams {
-            for slot in slots {
-                add_break(&mut literals, n, *team, *slot, false)?;
-            }
-        }
+        add_breaks(&mut literals, n, teams, slots, false)?;
     }
     Ok(literals)
+}
+
+/// Adds the literals that these teams have no home breaks, or no away breaks, at these slots.
+fn add_breaks(
+    literals: &mut Vec<Lit>,
+    n: u16,
+    teams: &[u16],
+    slots: &[u16],
+    home: bool,
+) -> Result<(), AllocError>
+    requires { n ≤ 40 }
+{
+    for team in teams {
+        for slot in slots {
+            add_break(literals, n, *team, *slot, home)?;
+        }
+    }
+    Ok(())
 }
 
 /// Adds the literal that a team has no home break at a slot, or no away break, if it is a slot at which it may.

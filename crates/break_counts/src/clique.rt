@@ -76,8 +76,7 @@ fn add_team(
         })?;
     }
     for other in &clique.teams {
-        let meeting = meeting_row(writer, frame, stretch, other.team, here.team)?;
-        let row = add_pair(alloc, writer, other, here, meeting)?;
+        let row = add_pair(alloc, writer, frame, stretch, other, here)?;
         parts.push(Part { factor: 1, row })?;
     }
     writer.sum(&parts, count.max(1))
@@ -87,10 +86,12 @@ fn add_team(
 fn add_pair(
     alloc: Global,
     writer: &mut Writer,
+    frame: Frame,
+    stretch: Stretch,
     first: &Alternation,
     second: &Alternation,
-    meeting: u64,
 ) -> Result<u64, AllocError> {
+    let meeting = meeting_row(writer, frame, stretch, first.team, second.team)?;
     let mut clause = Vec::new(alloc);
     clause.extend_from_slice(&first.clause)?;
     clause.extend_from_slice(&second.clause)?;
@@ -139,9 +140,38 @@ fn alternation_of(
     requires within { stretch.first + stretch.count ≤ frame.slots }
     requires team { team < frame.n }
 {
-    let mut clause = Vec::new(alloc);
+    let mut made = Alternation {
+        team,
+        clause: Vec::new(alloc),
+        hints: Vec::new(alloc),
+    };
+    add_breaks(
+        frame,
+        stretch,
+        home,
+        team,
+        &mut made.clause,
+        &mut made.hints,
+    )?;
+    add_no_games(writer, frame, stretch, home, team, &mut made.hints)?;
+    Ok(made)
+}
+
+/// Adds the literals that a team begins on the other side, and that it has a break that ends its alternation, and the rows
+/// of these breaks.
+fn add_breaks(
+    frame: Frame,
+    stretch: Stretch,
+    home: bool,
+    team: u16,
+    clause: &mut Vec<Lit>,
+    hints: &mut Vec<u64>,
+) -> Result<(), AllocError>
+    requires some { 1 ≤ stretch.count }
+    requires within { stretch.first + stretch.count ≤ frame.slots }
+    requires team { team < frame.n }
+{
     clause.push(Lit::new(h_at(frame.n, team, stretch.first), !home))?;
-    let mut hints = Vec::new(alloc);
     let mut at_home = home;
     for slot in stretch.first + 1..stretch.first + stretch.count {
         // At home in the slot before: a home break would end the alternation.
@@ -155,16 +185,26 @@ fn alternation_of(
         }
         at_home = !at_home;
     }
-    at_home = home;
+    Ok(())
+}
+
+/// Adds the rows by which a team that alternates plays at no other team's venue, or has no home game, slot by slot.
+fn add_no_games(
+    writer: &mut Writer,
+    frame: Frame,
+    stretch: Stretch,
+    home: bool,
+    team: u16,
+    hints: &mut Vec<u64>,
+) -> Result<(), AllocError>
+    requires { stretch.first + stretch.count ≤ frame.slots }
+{
+    let mut at_home = home;
     for slot in stretch.first..stretch.first + stretch.count {
         hints.push(no_game(writer, frame, team, slot, at_home)?)?;
         at_home = !at_home;
     }
-    Ok(Alternation {
-        team,
-        clause,
-        hints,
-    })
+    Ok(())
 }
 
 /// The number of a row by which a team that is at home plays at no other team's venue, or one that isn't has no home

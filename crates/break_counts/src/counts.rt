@@ -6,12 +6,13 @@ ghost use Rattle.encoding_base.specs.Encoding.{encoding_size};
 ghost use Rattle.venue_counts.specs.CountLogs.{IsRefuting};
 ghost use Rattle.break_counts.specs.BreakCounts.{are_few};
 ghost use Rattle.break_counts.specs.Sums.{AddUp};
+ghost use Rattle.break_counts.specs.Tables.{AreInSeason};
 
 use crate::lines::has_short_lines;
 use crate::log::{log_of, log_of_sum};
 use crate::searched::searched;
-use crate::shortage::find_shortage;
-use crate::sums::find_sum;
+use crate::shortage::{Shortage, find_shortage};
+use crate::sums::{Sum, find_sum};
 use encoding::{Encoding, encode_small};
 use league::League;
 use refutation::{Log, Verdict};
@@ -32,22 +33,51 @@ pub fn break_count(alloc: Global, league: &League) -> Result<Option<Log>, AllocE
     // What holds of every league.
     ensures instance { IsInstance league.now }
 {
-    let Some(shortage) = find_shortage(alloc, league)? else {
-        return Ok(None);
-    };
-    let encoding = encode_small(alloc, league)?;
-    let log = log_of(
-        alloc,
-        league,
-        &encoding,
-        &shortage.stretches,
-        shortage.class,
-    )?;
-    if let Some(log) = if_accepted(alloc, &encoding, log)? {
-        return Ok(Some(log));
+    match find_shortage(alloc, league)? {
+        Some(shortage) => Ok(Some(refute_shortage(alloc, league, &shortage)?)),
+        None => Ok(None),
     }
-    let log = searched(alloc, &encoding)?;
-    Ok(Some(log))
+}
+
+/// A log that refutes a league with a shortage.
+///
+/// # Errors
+/// Only where memory runs out.
+fn refute_shortage(
+    alloc: Global,
+    league: &League,
+    shortage: &Shortage<'_>,
+) -> Result<Log, AllocError>
+    requires small { encoding_size league.now ≤ most_terms }
+    requires few { are_few league.now ≡ true }
+    requires season { AreInSeason league.now.n shortage.now.stretches.items }
+    ensures { IfOk result (IsRefuting league.now) }
+{
+    let encoding = encode_small(alloc, league)?;
+    refute_rows(alloc, league, &encoding, shortage)
+}
+
+/// A log that refutes the rows of a league with a shortage: the one that counts, if it is accepted, and else that of a
+/// search.
+///
+/// # Errors
+/// Only where memory runs out.
+fn refute_rows(
+    alloc: Global,
+    league: &League,
+    encoding: &Encoding,
+    shortage: &Shortage<'_>,
+) -> Result<Log, AllocError>
+    requires few { are_few encoding.now ≡ true }
+    requires season { AreInSeason league.now.n shortage.now.stretches.items }
+    ensures { IfOk result (IsRefuting encoding.now) }
+{
+    let stretches = &shortage.stretches;
+    let log = log_of(alloc, league, encoding, stretches, shortage.class)?;
+    match if_accepted(alloc, encoding, log)? {
+        Some(log) => Ok(log),
+        None => searched(alloc, encoding),
+    }
 }
 
 /// A log that refutes a league, where hard constraints BR1 and BR2 allow its teams too few breaks together, and such are
@@ -63,11 +93,23 @@ pub fn break_sum(alloc: Global, league: &League) -> Result<Option<Log>, AllocErr
     // What holds of every league.
     ensures instance { IsInstance league.now }
 {
-    let Some(sum) = find_sum(alloc, league)? else {
-        return Ok(None);
-    };
+    match find_sum(alloc, league)? {
+        Some(sum) => refute_sum(alloc, league, &sum),
+        None => Ok(None),
+    }
+}
+
+/// A log that refutes a league by bounds that are added up, if it is accepted.
+///
+/// # Errors
+/// Only where memory runs out.
+fn refute_sum(alloc: Global, league: &League, sum: &Sum) -> Result<Option<Log>, AllocError>
+    requires small { encoding_size league.now ≤ most_terms }
+    requires season { AreInSeason league.now.n sum.now.stretches.items }
+    ensures { IfOk result (λ found. IfSome found (IsRefuting league.now)) }
+{
     let encoding = encode_small(alloc, league)?;
-    let log = log_of_sum(alloc, league, &encoding, &sum)?;
+    let log = log_of_sum(alloc, league, &encoding, sum)?;
     if_accepted(alloc, &encoding, log)
 }
 

@@ -9,18 +9,12 @@ use crate::cover::{covers, has};
 use crate::frame::Frame;
 use crate::stretch::Stretch;
 use crate::sums::Sum;
+use crate::together::Summand;
 use crate::writer::Writer;
 use encoding::Encoding;
 use league::{Class, League, Side};
 use refutation::{Log, Part};
 use std::alloc::{AllocError, Global};
-
-/// The teams that are counted, and the rows that bound their breaks.
-#[derive(Drop)]
-struct Counted {
-    teams: Vec<u16>,
-    rows: Vec<u64>,
-}
 
 /// The log that counts breaks in some stretches: of the teams that a BR2 or BR1 bounds there, all but two have a break in
 /// each stretch.
@@ -36,8 +30,13 @@ pub(crate) fn log_of(
 ) -> Result<Log, AllocError>
     requires season { AreInSeason league.now.n stretches.now }
 {
-    let counted = counted_teams(alloc, league, encoding, stretches, class)?;
-    log_over(alloc, league, encoding, stretches, counted)
+    let _n = league.n();
+    let mut rows = Vec::new(alloc);
+    let together = teams_together(stretches, class);
+    if !together.is_empty() {
+        add_row(alloc, encoding, class, 0, &mut rows)?;
+    }
+    log_over(alloc, league, encoding, stretches, together, &mut rows)
 }
 
 /// The log of bounds that are added up.
@@ -52,11 +51,39 @@ pub(crate) fn log_of_sum(
 ) -> Result<Log, AllocError>
     requires season { AreInSeason league.now.n sum.now.stretches.items }
 {
-    let counted = added_teams(alloc, league, encoding, sum)?;
-    log_over(alloc, league, encoding, &sum.stretches, counted)
+    let mut rows = Vec::new(alloc);
+    add_rows_of(alloc, league, encoding, &sum.summands, &mut rows)?;
+    log_over(
+        alloc,
+        league,
+        encoding,
+        &sum.stretches,
+        &sum.counted,
+        &mut rows,
+    )
 }
 
-/// The log that counts the breaks of these teams in some stretches.
+/// Adds the rows of bounds that are added up.
+///
+/// # Errors
+/// Only where memory runs out.
+fn add_rows_of(
+    alloc: Global,
+    league: &League,
+    encoding: &Encoding,
+    summands: &[Summand],
+    rows: &mut Vec<u64>,
+) -> Result<(), AllocError> {
+    for summand in summands {
+        if let Some(constraint) = league.constraints().get(summand.place) {
+            add_row(alloc, encoding, &constraint.class, summand.team, rows)?;
+        }
+    }
+    Ok(())
+}
+
+/// The log that counts breaks in some stretches: those of the teams that these rows bound together, and of those that
+/// hard BR1 bound there.
 ///
 /// # Errors
 /// Only where memory runs out.
@@ -65,35 +92,23 @@ fn log_over(
     league: &League,
     encoding: &Encoding,
     stretches: &[Stretch],
-    counted: Counted,
+    together: &[u16],
+    rows: &mut Vec<u64>,
 ) -> Result<Log, AllocError>
     requires season { AreInSeason league.now.n stretches.now }
-    requires teams { All (λ i. i < league.now.n) counted.teams.items }
 {
+    let teams = counted_teams(alloc, league, encoding, stretches, together, rows)?;
     let mut writer = Writer::new(alloc, encoding.rows().len() as u64);
-    let mut rows = counted.rows;
-    add_cliques(
-        alloc,
-        league,
-        &mut writer,
-        stretches,
-        &counted.teams,
-        &mut rows,
-    )?;
-    let mut parts = Vec::new(alloc);
-    for row in &rows {
-        parts.push(Part {
-            factor: 1,
-            row: *row,
-        })?;
-    }
-    let sum = writer.sum(&parts, 1)?;
-    writer.clause(&[], &[sum])?;
+    add_steps(alloc, league, &mut writer, stretches, &teams, rows)?;
     Ok(writer.finish())
 }
 
-/// Adds the rows of the teams' breaks in each stretch, of those that begin at home and of those that begin away.
-fn add_cliques(
+/// Adds the rows of the teams' breaks in each stretch, of those that begin at home and of those that begin away. Their
+/// sum with the rows so far leaves nothing.
+///
+/// # Errors
+/// Only where memory runs out.
+fn add_steps(
     alloc: Global,
     league: &League,
     writer: &mut Writer,
@@ -109,75 +124,48 @@ fn add_cliques(
         rows.push(add_clique(alloc, writer, frame, *stretch, true, teams)?)?;
         rows.push(add_clique(alloc, writer, frame, *stretch, false, teams)?)?;
     }
+    add_sum(alloc, writer, rows)
+}
+
+/// Adds the sum of these rows, and the empty clause.
+///
+/// # Errors
+/// Only where memory runs out.
+fn add_sum(alloc: Global, writer: &mut Writer, rows: &[u64]) -> Result<(), AllocError> {
+    let mut parts = Vec::new(alloc);
+    for row in rows {
+        parts.push(Part {
+            factor: 1,
+            row: *row,
+        })?;
+    }
+    let sum = writer.sum(&parts, 1)?;
+    writer.clause(&[], &[sum])?;
     Ok(())
 }
 
-/// The teams of a BR2 that counts each break of the stretches, and those that hard BR1 bound there.
+/// The teams that are bounded together, and those that hard BR1 bound in these stretches. The rows of these are added.
+///
+/// # Errors
+/// Only where memory runs out.
 fn counted_teams(
     alloc: Global,
     league: &League,
     encoding: &Encoding,
     stretches: &[Stretch],
-    class: &Class,
-) -> Result<Counted, AllocError>
-    requires season { AreInSeason league.now.n stretches.now }
-    ensures { IfOk result (λ counted. All (λ i. i < league.now.n) counted.teams.items) }
+    together: &[u16],
+    rows: &mut Vec<u64>,
+) -> Result<Vec<u16>, AllocError>
+    requires { AreInSeason league.now.n stretches.now }
+    ensures { IfOk result (λ teams. All (λ i. i < league.now.n) teams.items) }
 {
-    let n = league.n();
-    let together = teams_together(stretches, class);
-    let mut counted = Counted {
-        teams: Vec::new(alloc),
-        rows: Vec::new(alloc),
-    };
-    if !together.is_empty() {
-        add_row(alloc, encoding, class, 0, &mut counted.rows)?;
-    }
-    for team in 0..n {
-        if has(together, team)
-            || add_single(alloc, league, encoding, stretches, team, &mut counted.rows)?
-        {
-            counted.teams.push(team)?;
+    let mut teams = Vec::new(alloc);
+    for team in 0..league.n() {
+        if has(together, team) || add_single(alloc, league, encoding, stretches, team, rows)? {
+            teams.push(team)?;
         }
     }
-    Ok(counted)
-}
-
-/// The teams of which bounds that are added up count each break, and those that hard BR1 bound in these stretches.
-fn added_teams(
-    alloc: Global,
-    league: &League,
-    encoding: &Encoding,
-    sum: &Sum,
-) -> Result<Counted, AllocError>
-    requires season { AreInSeason league.now.n sum.now.stretches.items }
-    ensures { IfOk result (λ counted. All (λ i. i < league.now.n) counted.teams.items) }
-{
-    let n = league.n();
-    let mut counted = Counted {
-        teams: Vec::new(alloc),
-        rows: Vec::new(alloc),
-    };
-    for summand in &sum.summands {
-        if let Some(constraint) = league.constraints().get(summand.place) {
-            let class = &constraint.class;
-            add_row(alloc, encoding, class, summand.team, &mut counted.rows)?;
-        }
-    }
-    for team in 0..n {
-        if has(&sum.counted, team)
-            || add_single(
-                alloc,
-                league,
-                encoding,
-                &sum.stretches,
-                team,
-                &mut counted.rows,
-            )?
-        {
-            counted.teams.push(team)?;
-        }
-    }
-    Ok(counted)
+    Ok(teams)
 }
 
 /// The teams of a BR2 that counts each break of the stretches, and else none.

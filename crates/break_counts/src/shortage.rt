@@ -9,7 +9,7 @@ ghost use Rattle.break_counts.specs.Tables.{AreInSeason, IsTable};
 
 use crate::allowed::allowed_of;
 use crate::cover::{covers, has};
-use crate::stretch::Stretch;
+use crate::stretch::{Stretch, copy_of};
 use league::{Class, League, slot_count};
 use std::alloc::{AllocError, Global};
 
@@ -73,24 +73,33 @@ fn shortage_in<'a>(
         is_some found ≡ is_few_in league.now.n league.now.constraints stretches.now) }
     ensures stretches { IfOk result (λ found. IfSome found (λ s. AreInSeason league.now.n s.stretches.items)) }
 {
-    let n = league.n();
     let allowed = allowed_of(alloc, league, stretches)?;
+    match first_few(league, &allowed, stretches) {
+        Some(class) => Ok(Some(Shortage {
+            stretches: copy_of(alloc, stretches)?,
+            class,
+        })),
+        None => Ok(None),
+    }
+}
+
+/// The class of the first hard constraint with which the teams are allowed too few breaks in these stretches, by what each
+/// is allowed.
+fn first_few<'a>(league: &'a League, allowed: &[u32], stretches: &[Stretch]) -> Option<&'a Class>
+    requires table { IsTable league.now.n league.now.constraints stretches.now allowed.now }
+    requires few { length stretches.now ≤ 2 }
+    requires within { All (λ t. t.first + t.count ≤ 78) stretches.now }
+    ensures { is_some result ≡ is_few_in league.now.n league.now.constraints stretches.now }
+{
+    let n = league.n();
     let needed = stretches.len() as u64 * u64::from(n - 2);
     let constraints = league.constraints();
-    for place in 0..constraints.len() {
-        let constraint = &constraints[place];
-        if constraint.hard
-            && allowed_with(league, &allowed, stretches, &constraint.class) < needed
-        {
-            let mut kept = Vec::new(alloc);
-            kept.extend_from_slice(stretches)?;
-            return Ok(Some(Shortage {
-                stretches: kept,
-                class: &constraint.class,
-            }));
+    for constraint in constraints {
+        if constraint.hard && allowed_with(league, allowed, stretches, &constraint.class) < needed {
+            return Some(&constraint.class);
         }
     }
-    Ok(None)
+    None
 }
 
 /// In how many of the stretches all teams may have breaks together, by a class and what each is allowed.

@@ -1,6 +1,6 @@
 //! Bounds of breaks that are added up: hard constraints BR1 and BR2 that count, one beside another, each break of some
 //! teams.
-ghost use Rattle.std.specs.Prelude.{◌≡◌, ◌+◌, ◌≤◌, true, length, IfOk, IfSome};
+ghost use Rattle.std.specs.Prelude.{◌≡◌, ◌+◌, ◌≤◌, true, length, IfOk, IfSome, IsTrue};
 ghost use Rattle.std.specs.List.{All};
 ghost use Rattle.league.specs.Instance.{IsInstance};
 ghost use Rattle.break_counts.specs.Sums.{are_few_together, is_few_together};
@@ -8,7 +8,7 @@ ghost use Rattle.break_counts.specs.Tables.{AreInSeason};
 
 use crate::allowed::allowed_of;
 use crate::cover::has;
-use crate::stretch::Stretch;
+use crate::stretch::{Stretch, copy_of};
 use crate::together::{Summand, allowed_together, counted_teams};
 use league::{Class, League, Side, slot_count};
 use std::alloc::{AllocError, Global};
@@ -91,21 +91,38 @@ fn sum_in(alloc: Global, league: &League, stretches: &[Stretch]) -> Result<Optio
         is_few_together league.now.n league.now.constraints s.summands.items stretches.now ≡ true)) }
     ensures stretches { IfOk result (λ found. IfSome found (λ s. AreInSeason league.now.n s.stretches.items)) }
 {
-    let n = league.n();
     let summands = chosen(alloc, league, later_bits(stretches))?;
-    let allowed = allowed_of(alloc, league, stretches)?;
-    let needed = stretches.len() as u64 * u64::from(n - 2);
-    if summands.is_empty() || allowed_together(league, &summands, stretches, &allowed) >= needed {
+    if !allow_few(alloc, league, &summands, stretches)? {
         return Ok(None);
     }
-    let counted = counted_teams(alloc, league, &summands, stretches)?;
-    let mut kept = Vec::new(alloc);
-    kept.extend_from_slice(stretches)?;
     Ok(Some(Sum {
-        stretches: kept,
+        stretches: copy_of(alloc, stretches)?,
+        counted: counted_teams(alloc, league, &summands, stretches)?,
         summands,
-        counted,
     }))
+}
+
+/// Whether there are such bounds, and they allow too few breaks together in these stretches.
+///
+/// # Errors
+/// Only where memory runs out.
+fn allow_few(
+    alloc: Global,
+    league: &League,
+    summands: &[Summand],
+    stretches: &[Stretch],
+) -> Result<bool, AllocError>
+    requires few { length stretches.now ≤ 2 }
+    requires within { All (λ t. t.first + t.count ≤ 78) stretches.now }
+    ensures { IfOk result (λ few. IsTrue few →
+        is_few_together league.now.n league.now.constraints summands.now stretches.now ≡ true) }
+{
+    if summands.is_empty() {
+        return Ok(false);
+    }
+    let allowed = allowed_of(alloc, league, stretches)?;
+    let needed = stretches.len() as u64 * u64::from(league.n() - 2);
+    Ok(allowed_together(league, summands, stretches, &allowed) < needed)
 }
 
 /// Bounds that may allow too few breaks together at slots of these bits: first those that allow least for each break
@@ -117,16 +134,7 @@ fn sum_in(alloc: Global, league: &League, stretches: &[Stretch]) -> Result<Optio
 fn chosen(alloc: Global, league: &League, later: u128) -> Result<Vec<Summand>, AllocError> {
     let all = all_candidates(alloc, league, later)?;
     let taken = apart(alloc, league, &all)?;
-    let covered = covered_by(alloc, league, &taken, later)?;
-    needed_of(alloc, league, &taken, &covered)
-}
-
-/// Whether a team is covered.
-fn is_covered(covered: &[bool], team: usize) -> bool {
-    match covered.get(team) {
-        Some(covered) => *covered,
-        None => false,
-    }
+    needed_of(alloc, league, &taken, later)
 }
 
 /// The bounds of hard constraints that count breaks at slots of these bits.
@@ -201,27 +209,65 @@ fn add_candidates(
     }
 }
 
+/// Bounds of which no two count the same break, and the slots of the breaks that they count, team by team.
+#[derive(Drop)]
+struct Taken {
+    candidates: Vec<Candidate>,
+    counted: Vec<u128>,
+}
+
+impl Taken {
+    /// Takes a bound, unless it counts a break that is counted so far.
+    ///
+    /// # Errors
+    /// Only where memory runs out.
+    fn take(
+        &mut self,
+        alloc: Global,
+        league: &League,
+        candidate: Candidate,
+    ) -> Result<(), AllocError> {
+        if is_apart(league, &self.counted, candidate) {
+            self.counted = marked(alloc, league, &self.counted, candidate)?;
+            self.candidates.push(candidate)?;
+        }
+        Ok(())
+    }
+}
+
 /// Bounds of which no two count the same break: those that allow least for each break that they count come first.
 ///
 /// # Errors
 /// Only where memory runs out.
-fn apart(alloc: Global, league: &League, all: &[Candidate]) -> Result<Vec<Candidate>, AllocError> {
+fn apart(alloc: Global, league: &League, all: &[Candidate]) -> Result<Taken, AllocError> {
+    let order = order_of(alloc, league, all)?;
+    let mut taken = Taken {
+        candidates: Vec::new(alloc),
+        counted: Vec::new(alloc),
+    };
+    for ranked in &order {
+        if let Some(candidate) = all.get(ranked.1) {
+            taken.take(alloc, league, *candidate)?;
+        }
+    }
+    Ok(taken)
+}
+
+/// How much each bound allows for each break that it counts, and its place, in ascending order.
+///
+/// # Errors
+/// Only where memory runs out.
+fn order_of(
+    alloc: Global,
+    league: &League,
+    all: &[Candidate],
+) -> Result<Vec<(u64, usize)>, AllocError> {
     let mut order = Vec::with_capacity(alloc, all.len())?;
     for k in 0..all.len() {
         order.push((share(league, all[k]), k))?;
     }
     order.sort_unstable();
-    let mut counted = Vec::new(alloc);
-    let mut taken = Vec::new(alloc);
-    for ranked in &order {
-        if let Some(candidate) = all.get(ranked.1) {
-            if is_apart(league, &counted, *candidate) {
-                counted = marked(alloc, league, &counted, *candidate)?;
-                taken.push(*candidate)?;
-            }
-        }
-    }
-    Ok(taken)
+    Ok(order)
 }
 
 /// How much a bound allows for each break that it counts, in parts of 2^20.
@@ -276,50 +322,29 @@ fn slots_of(counted: &[u128], team: u16) -> u128 {
     }
 }
 
-/// Whether these bounds count, team by team, each of its breaks at slots of these bits.
-///
-/// # Errors
-/// Only where memory runs out.
-fn covered_by(
-    alloc: Global,
-    league: &League,
-    taken: &[Candidate],
-    later: u128,
-) -> Result<Vec<bool>, AllocError> {
-    let mut counted = Vec::new(alloc);
-    for candidate in taken {
-        counted = marked(alloc, league, &counted, *candidate)?;
-    }
-    let mut covered = Vec::new(alloc);
-    for team in 0..league.n() {
-        covered.push(slots_of(&counted, team) == later)?;
-    }
-    Ok(covered)
-}
-
-/// The bounds that count a break of a team each of whose breaks is counted.
+/// The bounds that count a break of a team each of whose breaks at slots of these bits is counted.
 ///
 /// # Errors
 /// Only where memory runs out.
 fn needed_of(
     alloc: Global,
     league: &League,
-    taken: &[Candidate],
-    covered: &[bool],
+    taken: &Taken,
+    later: u128,
 ) -> Result<Vec<Summand>, AllocError> {
     let mut needed = Vec::new(alloc);
-    for candidate in taken {
-        if counts_some(league, *candidate, covered) {
+    for candidate in &taken.candidates {
+        if counts_some(league, *candidate, &taken.counted, later) {
             needed.push(candidate.summand)?;
         }
     }
     Ok(needed)
 }
 
-/// Whether a bound counts a break of one of these teams.
-fn counts_some(league: &League, candidate: Candidate, covered: &[bool]) -> bool {
+/// Whether a bound counts a break of a team each of whose breaks at slots of these bits is counted.
+fn counts_some(league: &League, candidate: Candidate, counted: &[u128], later: u128) -> bool {
     for team in 0..league.n() {
-        if is_covered(covered, usize::from(team)) && candidate.counts(league, team) {
+        if slots_of(counted, team) == later && candidate.counts(league, team) {
             return true;
         }
     }

@@ -5,30 +5,22 @@ use Rattle.league.specs.Instance.{Instance, class_fits}
 use Rattle.league.specs.declared.class.Constraint.{Constraint}
 use Rattle.std.specs.Prelude.{IsTrue}
 use Rattle.rows.specs.Rows.{Row}
-use Rattle.encoding_base.specs.Encoding.{constraint_rows, rows_of, season_rows}
+use Rattle.encoding_base.specs.Encoding.{constraint_rows, season_rows}
 use Rattle.encoding_base.specs.Season.{both_needed, break_rows, break_rows_at, neither_needed}
-use Rattle.encoding_base.specs.Variables.{ab_var, h_var, has_breaks, hb_var}
+use Rattle.encoding_base.specs.Variables.{ab_var, h_var, hb_var}
 
-pub made_rows : (league : Instance) (n : ℕ) (phased breaks : Bool) (constraints : List Constraint)
-    (start season tied all : List Row)
-    → start ≡ [] → n ≡ league.n → phased ≡ league.phased → constraints ≡ league.constraints
-    → breaks ≡ has_breaks constraints
-    → season ≡ start ++ season_rows n phased → tied ≡ season ++ break_rows n breaks
-    → all ≡ tied ++ constraint_rows n constraints → all ≡ rows_of league
-made_rows league n phased breaks constraints start season tied all none same_n same_phased same_constraints are_breaks
-    is_season is_tied is_all =
+pub made_rows : (n m : ℕ) (phased asked breaks : Bool) (cs ds : List Constraint) (start season tied all : List Row)
+    → all ≡ tied ++ constraint_rows m ds → tied ≡ season ++ break_rows m breaks
+    → season ≡ start ++ season_rows m asked → start ≡ [] → m ≡ n → asked ≡ phased → ds ≡ cs
+    → all ≡ season_rows n phased ++ break_rows n breaks ++ constraint_rows n cs
+made_rows n m phased asked breaks cs ds start season tied all is_all is_tied is_season none same_n same_phased same =
     is_all
-    ∙ ap (λ (rows : List Row). rows ++ constraint_rows n constraints) is_tied
-    ∙ ap (λ (rows : List Row). rows ++ break_rows n breaks ++ constraint_rows n constraints) is_season
-    ∙ ap (λ (rows : List Row). rows ++ season_rows n phased ++ break_rows n breaks ++ constraint_rows n constraints)
-    none
-    ∙ ap (λ (b : Bool). season_rows n phased ++ break_rows n b ++ constraint_rows n constraints) are_breaks
-    ∙ ap (λ (k : ℕ). season_rows k phased ++ break_rows k (has_breaks constraints) ++ constraint_rows k constraints)
-    same_n
-    ∙ ap (λ (b : Bool). season_rows league.n b ++ break_rows league.n (has_breaks constraints) ++ constraint_rows
-    league.n constraints) same_phased
-    ∙ ap (λ (cs : List Constraint). season_rows league.n league.phased ++ break_rows league.n
-    (has_breaks cs) ++ constraint_rows league.n cs) same_constraints
+    ∙ ap (λ (rows : List Row). rows ++ constraint_rows m ds) is_tied
+    ∙ ap (λ (rows : List Row). rows ++ break_rows m breaks ++ constraint_rows m ds) is_season
+    ∙ ap (λ (rows : List Row). rows ++ season_rows m asked ++ break_rows m breaks ++ constraint_rows m ds) none
+    ∙ ap (λ (k : ℕ). season_rows k asked ++ break_rows k breaks ++ constraint_rows k ds) same_n
+    ∙ ap (λ (b : Bool). season_rows n b ++ break_rows n breaks ++ constraint_rows n ds) same_phased
+    ∙ ap (λ (es : List Constraint). season_rows n phased ++ break_rows n breaks ++ constraint_rows n es) same
 
 -- the same constraints fit
 pub fit_alike : (league : Instance) (n : ℕ) (constraints : List Constraint) → n ≡ league.n

@@ -1,8 +1,10 @@
 //! The rows that tie breaks to venues.
-ghost use Rattle.std.specs.Prelude.{◌≡◌, ◌+◌, ◌^◌, ◌<◌, ◌≤◌, ◌++◌, [], ◌∷◌, length, OnOk};
+ghost use Rattle.std.specs.Prelude.{◌≡◌, ◌+◌, ◌^◌, ◌<◌, ◌≤◌, ◌++◌, [], ◌∷◌, length, not, OnOk};
 ghost use Rattle.std.specs.List.{flat_map};
 ghost use Rattle.league.specs.Counts as counts;
 ghost use Rattle.rows.specs.Cardinality.{at_least};
+ghost use Rattle.rows.specs.Literals.{no, yes};
+ghost use Rattle.rows.specs.Sums.{literal};
 ghost use Rattle.encoding_base.specs.Lists.{after_first};
 ghost use Rattle.encoding_base.specs.Season as season_rows;
 
@@ -76,49 +78,32 @@ fn add_rows_at(draft: &mut Draft, season: &Season, team: u16, slot: u16) -> Resu
     let now = h_at(n, team, slot);
     let home = hb_at(n, team, slot);
     let away = ab_at(n, team, slot);
-    add_both_needed(&mut draft.rows, before, now, home)?;
-    add_neither_needed(&mut draft.rows, before, now, away)?;
+    add_both(&mut draft.rows, before, now, home, true)?;
+    add_both(&mut draft.rows, before, now, away, false)?;
     Ok(())
 }
 
-/// Adds that a variable is true exactly where two before it are.
-fn add_both_needed(rows: &mut RowStore, p: u32, q: u32, both: u32) -> Result<(), AllocError>
+/// Adds that a variable is true exactly where two before it both have this value.
+fn add_both(rows: &mut RowStore, p: u32, q: u32, both: u32, value: bool) -> Result<(), AllocError>
     requires at_least { 1 ≤ p }
     requires first { p < q }
     requires second { q < both }
     requires at_most { both ≤ 200000 }
     requires room { length rows.old + 3 < 2 ^ 32 }
-    ensures rows { OnOk result (rows.new ≡ rows.old ++ season_rows.both_needed p q both) }
+    ensures rows { OnOk result (rows.new ≡ rows.old
+        ++ at_least 1 (literal p value ∷ no both ∷ [])
+        ∷ at_least 1 (literal q value ∷ no both ∷ [])
+        ∷ at_least 1 (literal p (not value) ∷ literal q (not value) ∷ yes both ∷ [])
+        ∷ []) }
     ensures few { OnOk result (length rows.new ≤ length rows.old + 3) }
 {
-    add_two(rows, Lit::new(p, true), Lit::new(both, false))?;
-    add_two(rows, Lit::new(q, true), Lit::new(both, false))?;
+    add_two(rows, Lit::new(p, value), Lit::new(both, false))?;
+    add_two(rows, Lit::new(q, value), Lit::new(both, false))?;
     add_three(
         rows,
-        Lit::new(p, false),
-        Lit::new(q, false),
+        Lit::new(p, !value),
+        Lit::new(q, !value),
         Lit::new(both, true),
-    )?;
-    Ok(())
-}
-
-/// Adds that a variable is true exactly where two before it are false.
-fn add_neither_needed(rows: &mut RowStore, p: u32, q: u32, neither: u32) -> Result<(), AllocError>
-    requires at_least { 1 ≤ p }
-    requires first { p < q }
-    requires second { q < neither }
-    requires at_most { neither ≤ 200000 }
-    requires room { length rows.old + 3 < 2 ^ 32 }
-    ensures rows { OnOk result (rows.new ≡ rows.old ++ season_rows.neither_needed p q neither) }
-    ensures few { OnOk result (length rows.new ≤ length rows.old + 3) }
-{
-    add_two(rows, Lit::new(p, false), Lit::new(neither, false))?;
-    add_two(rows, Lit::new(q, false), Lit::new(neither, false))?;
-    add_three(
-        rows,
-        Lit::new(p, true),
-        Lit::new(q, true),
-        Lit::new(neither, true),
     )?;
     Ok(())
 }

@@ -1,16 +1,18 @@
 //! The literals that a key counts, as they are listed.
-ghost use Rattle.std.specs.Prelude.{◌≡◌, ◌<◌, ◌≤◌, ◌++◌, IfOk, OnOk};
-ghost use Rattle.std.specs.List.{All, filter, flat_map};
+ghost use Rattle.std.specs.Prelude.{◌≡◌, ◌<◌, ◌≤◌, ◌++◌, map, IfOk, OnOk, if◌then◌else◌};
+ghost use Rattle.std.specs.List.{filter, flat_map};
 ghost use Rattle.league.specs.Capacity as capacity;
 ghost use Rattle.league.specs.Counts.{slot_count};
 ghost use Rattle.league.specs.Meetings.{meetings_of};
-ghost use Rattle.encoding_base.specs.Ascending.{AreMeetings, AreSlots, AreTeams};
+ghost use Rattle.encoding_base.specs.Ascending.{AreSlots, AreTeams};
 ghost use Rattle.encoding_base.specs.Keys.{IsListable, literals_of};
-ghost use Rattle.encoding_base.specs.Lists.{at_home_in, away_breaks_at, away_in, breaks_in, games_in, home_breaks_at};
-ghost use Rattle.encoding_base.specs.Lists.{meetings_in_order, venues_in};
+ghost use Rattle.encoding_base.specs.Lists.{after_first, at_home_in, away_breaks_at, away_in, breaks_in};
+ghost use Rattle.encoding_base.specs.Lists.{home_breaks_at, venues_in};
 ghost use Rattle.encoding_base.specs.Pairs.{IsPair};
+ghost use Rattle.encoding_base.specs.Variables.{ab_var, hb_var};
+ghost use Rattle.rows.specs.Literals.{yes};
 
-use crate::literals::{add_away, add_games, add_home};
+use crate::literals::{add_games, add_venue};
 use encoding_base::{Counted, ab_at, hb_at, is_between, meetings_in_order};
 use league::{Side, TeamSet};
 use rows::Lit;
@@ -37,8 +39,8 @@ pub(crate) fn add_counted(
             side,
             slots,
         } => {
-            let meetings = meetings_with(alloc, n, side, team, opponents)?;
-            add_games_in(literals, n, &meetings, slots)
+            let meetings = meetings_in_order(alloc, side, team, opponents)?;
+            add_games(literals, n, &meetings, slots)
         }
         Counted::Between {
             teams1,
@@ -47,9 +49,9 @@ pub(crate) fn add_counted(
             slots,
         } => {
             let meetings = meetings_between(alloc, all, teams1, teams2, side)?;
-            add_games_in(literals, n, &meetings, slots)
+            add_games(literals, n, &meetings, slots)
         }
-        Counted::Games { meetings, slots } => add_games_in(literals, n, meetings, slots),
+        Counted::Games { meetings, slots } => add_games(literals, n, meetings, slots),
         Counted::Breaks { team, side, slots } => add_breaks(literals, n, team, side, slots),
         Counted::AllBreaks { teams, slots } => add_all_breaks(literals, n, teams, slots),
         Counted::Lead {
@@ -58,21 +60,6 @@ pub(crate) fn add_counted(
             slots,
         } => add_lead(literals, n, first, second, slots),
     }
-}
-
-/// Adds the games of some meetings in some slots.
-fn add_games_in(
-    literals: &mut Vec<Lit>,
-    n: u16,
-    meetings: &[(u16, u16)],
-    slots: &[u16],
-) -> Result<(), AllocError>
-    requires n { n ≤ 40 }
-    requires meetings { AreMeetings n meetings.now }
-    requires slots { AreSlots n slots.now }
-    ensures { OnOk result (literals.new.items ≡ literals.old.items ++ games_in n meetings.now slots.now) }
-{
-    add_games(literals, n, meetings, slots)
 }
 
 /// Adds the literals of the games of a team on a side in some slots; of both sides, none.
@@ -89,8 +76,8 @@ fn add_venues(
     ensures { OnOk result (literals.new.items ≡ literals.old.items ++ venues_in side n team slots.now) }
 {
     match side {
-        Side::H => add_home(literals, n, team, slots),
-        Side::A => add_away(literals, n, team, slots),
+        Side::H => add_venue(literals, n, team, true, slots),
+        Side::A => add_venue(literals, n, team, false, slots),
         Side::Both => Ok(()),
     }
 }
@@ -109,24 +96,8 @@ fn add_lead(
     ensures { OnOk result (literals.new.items
         ≡ literals.old.items ++ (away_in n first slots.now ++ at_home_in n second slots.now)) }
 {
-    add_away(literals, n, first, slots)?;
-    add_home(literals, n, second, slots)
-}
-
-/// The meetings of a team on a side with others, in order.
-fn meetings_with(
-    alloc: Global,
-    n: u16,
-    side: Side,
-    team: u16,
-    teams: &[u16],
-) -> Result<Vec<(u16, u16)>, AllocError>
-    requires team { team < n }
-    requires teams { AreTeams n teams.now }
-    ensures meetings { IfOk result (λ made. made.items ≡ meetings_in_order side team teams.now) }
-    ensures fit { IfOk result (λ made. AreMeetings n made.items) }
-{
-    meetings_in_order(alloc, side, team, teams)
+    add_venue(literals, n, first, false, slots)?;
+    add_venue(literals, n, second, true, slots)
 }
 
 /// The meetings of some teams with others on a side, taken from all meetings in their order.
@@ -163,11 +134,11 @@ fn add_breaks(
     ensures { OnOk result (literals.new.items ≡ literals.old.items ++ breaks_in side n team slots.now) }
 {
     match side {
-        Side::H => add_home_breaks_of(literals, n, team, slots),
-        Side::A => add_away_breaks_of(literals, n, team, slots),
+        Side::H => add_breaks_of(literals, n, team, true, slots),
+        Side::A => add_breaks_of(literals, n, team, false, slots),
         Side::Both => {
-            add_home_breaks_of(literals, n, team, slots)?;
-            add_away_breaks_of(literals, n, team, slots)
+            add_breaks_of(literals, n, team, true, slots)?;
+            add_breaks_of(literals, n, team, false, slots)
         }
     }
 }
@@ -186,84 +157,64 @@ fn add_all_breaks(
         ≡ literals.old.items ++ (flat_map (λ i. home_breaks_at n i slots.now) teams.now
         ++ flat_map (λ i. away_breaks_at n i slots.now) teams.now)) }
 {
-    add_home_breaks(literals, n, teams, slots)?;
-    add_away_breaks(literals, n, teams, slots)
+    add_team_breaks(literals, n, teams, true, slots)?;
+    add_team_breaks(literals, n, teams, false, slots)
 }
 
-/// Adds the literals of the home breaks of some teams at some slots.
-fn add_home_breaks(
+/// Adds the literals of the home breaks, or of the away breaks, of some teams at some slots.
+fn add_team_breaks(
     literals: &mut Vec<Lit>,
     n: u16,
     teams: &[u16],
+    home: bool,
     slots: &[u16],
 ) -> Result<(), AllocError>
     requires n { n ≤ 40 }
-    requires teams { All (λ i. i < n) teams.now }
-    requires slots { All (λ s. s < slot_count n) slots.now }
-    ensures { OnOk result (literals.new.items
-        ≡ literals.old.items ++ flat_map (λ i. home_breaks_at n i slots.now) teams.now) }
+    requires teams { AreTeams n teams.now }
+    requires slots { AreSlots n slots.now }
+    ensures { OnOk result (literals.new.items ≡ literals.old.items ++ flat_map
+        (λ i. map (λ s. yes (if home then hb_var n i s else ab_var n i s)) (after_first slots.now)) teams.now) }
 {
     for team in teams {
-        add_home_breaks_of(literals, n, *team, slots)?;
+        add_breaks_of(literals, n, *team, home, slots)?;
     }
     Ok(())
 }
 
-/// Adds the literals of the away breaks of some teams at some slots.
-fn add_away_breaks(
-    literals: &mut Vec<Lit>,
-    n: u16,
-    teams: &[u16],
-    slots: &[u16],
-) -> Result<(), AllocError>
-    requires n { n ≤ 40 }
-    requires teams { All (λ i. i < n) teams.now }
-    requires slots { All (λ s. s < slot_count n) slots.now }
-    ensures { OnOk result (literals.new.items
-        ≡ literals.old.items ++ flat_map (λ i. away_breaks_at n i slots.now) teams.now) }
-{
-    for team in teams {
-        add_away_breaks_of(literals, n, *team, slots)?;
-    }
-    Ok(())
-}
-
-/// Adds the literals of a team's home breaks at some slots: slot 0 has none.
-fn add_home_breaks_of(
+/// Adds the literals of a team's home breaks, or of its away breaks, at some slots: slot 0 has none.
+fn add_breaks_of(
     literals: &mut Vec<Lit>,
     n: u16,
     team: u16,
+    home: bool,
     slots: &[u16],
 ) -> Result<(), AllocError>
     requires n { n ≤ 40 }
     requires team { team < n }
-    requires slots { All (λ s. s < slot_count n) slots.now }
-    ensures { OnOk result (literals.new.items ≡ literals.old.items ++ home_breaks_at n team slots.now) }
+    requires slots { AreSlots n slots.now }
+    ensures { OnOk result (literals.new.items ≡ literals.old.items
+        ++ map (λ s. yes (if home then hb_var n team s else ab_var n team s)) (after_first slots.now)) }
 {
     for slot in slots {
         if *slot > 0 {
-            literals.push(Lit::new(hb_at(n, team, *slot), true))?;
+            literals.push(break_at(n, team, home, *slot))?;
         }
     }
     Ok(())
 }
 
-/// Adds the literals of a team's away breaks at some slots: slot 0 has none.
-fn add_away_breaks_of(
-    literals: &mut Vec<Lit>,
-    n: u16,
-    team: u16,
-    slots: &[u16],
-) -> Result<(), AllocError>
+/// The literal of a team's home break, or of its away break, at a slot from 1 on.
+fn break_at(n: u16, team: u16, home: bool, slot: u16) -> Lit
     requires n { n ≤ 40 }
     requires team { team < n }
-    requires slots { All (λ s. s < slot_count n) slots.now }
-    ensures { OnOk result (literals.new.items ≡ literals.old.items ++ away_breaks_at n team slots.now) }
+    requires later { 0 < slot }
+    requires slot { slot < slot_count n }
+    ensures { result ≡ yes (if home then hb_var n team slot else ab_var n team slot) }
 {
-    for slot in slots {
-        if *slot > 0 {
-            literals.push(Lit::new(ab_at(n, team, *slot), true))?;
-        }
-    }
-    Ok(())
+    let var = if home {
+        hb_at(n, team, slot)
+    } else {
+        ab_at(n, team, slot)
+    };
+    Lit::new(var, true)
 }

@@ -3,8 +3,9 @@ ghost use Rattle.std.specs.Prelude.{◌≡◌, ◌<◌, ◌≤◌, ◌++◌, map
 ghost use Rattle.std.specs.List.{All};
 ghost use Rattle.league.specs.Counts.{slot_count};
 ghost use Rattle.rows.specs.Literals.{yes};
-ghost use Rattle.encoding_base.specs.Ascending.{IsMeeting};
-ghost use Rattle.encoding_base.specs.Lists.{at_home_in, away_in, games_in};
+ghost use Rattle.rows.specs.Sums.{literal};
+ghost use Rattle.encoding_base.specs.Ascending.{AreMeetings, AreSlots, IsMeeting};
+ghost use Rattle.encoding_base.specs.Lists.{games_in};
 ghost use Rattle.encoding_base.specs.Variables.{h_var, x_var};
 
 use encoding_base::{h_at, x_at};
@@ -19,8 +20,8 @@ pub(crate) fn add_games(
     slots: &[u16],
 ) -> Result<(), AllocError>
     requires teams { n ≤ 40 }
-    requires meetings { All (IsMeeting n) meetings.now }
-    requires slots { All (λ s. s < slot_count n) slots.now }
+    requires meetings { AreMeetings n meetings.now }
+    requires slots { AreSlots n slots.now }
     ensures { OnOk result (literals.new.items ≡ literals.old.items ++ games_in n meetings.now slots.now) }
 {
     for meeting in meetings {
@@ -38,7 +39,7 @@ fn add_games_of(
 ) -> Result<(), AllocError>
     requires teams { n ≤ 40 }
     requires meeting { IsMeeting n meeting }
-    requires slots { All (λ s. s < slot_count n) slots.now }
+    requires slots { AreSlots n slots.now }
     ensures { OnOk result (literals.new.items
         ≡ literals.old.items ++ map (λ s. yes (x_var n meeting.0 meeting.1 s)) slots.now) }
 {
@@ -48,38 +49,22 @@ fn add_games_of(
     Ok(())
 }
 
-/// Adds that a team is at home in some slots.
-pub(crate) fn add_home(
+/// Adds that a team is at home in some slots, or that it is away.
+pub(crate) fn add_venue(
     literals: &mut Vec<Lit>,
     n: u16,
     team: u16,
+    home: bool,
     slots: &[u16],
 ) -> Result<(), AllocError>
     requires teams { n ≤ 40 }
     requires team { team < n }
-    requires slots { All (λ s. s < slot_count n) slots.now }
-    ensures { OnOk result (literals.new.items ≡ literals.old.items ++ at_home_in n team slots.now) }
+    requires slots { AreSlots n slots.now }
+    ensures { OnOk result
+        (literals.new.items ≡ literals.old.items ++ map (λ s. literal (h_var n team s) home) slots.now) }
 {
     for slot in slots {
-        literals.push(Lit::new(h_at(n, team, *slot), true))?;
-    }
-    Ok(())
-}
-
-/// Adds that a team is away in some slots.
-pub(crate) fn add_away(
-    literals: &mut Vec<Lit>,
-    n: u16,
-    team: u16,
-    slots: &[u16],
-) -> Result<(), AllocError>
-    requires teams { n ≤ 40 }
-    requires team { team < n }
-    requires slots { All (λ s. s < slot_count n) slots.now }
-    ensures { OnOk result (literals.new.items ≡ literals.old.items ++ away_in n team slots.now) }
-{
-    for slot in slots {
-        literals.push(Lit::new(h_at(n, team, *slot), false))?;
+        literals.push(Lit::new(h_at(n, team, *slot), home))?;
     }
     Ok(())
 }

@@ -114,8 +114,7 @@ fn part(numbers: &[u16], first: usize, end: usize) -> &[u16]
 fn numbers(alloc: Global, bound: u16) -> Result<Vec<u16>, AllocError>
     ensures { IfOk result (λ numbers. numbers.items ≡ range_with_len 0 bound) }
 {
-    let mut numbers = Vec::new(alloc);
-    numbers.reserve(bound as usize)?;
+    let mut numbers = Vec::with_capacity(alloc, bound as usize)?;
     for number in 0..bound {
         numbers.push(number)?;
     }

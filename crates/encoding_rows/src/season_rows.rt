@@ -14,7 +14,7 @@ ghost use Rattle.encoding_base.specs.Season as season_rows;
 ghost use Rattle.encoding_base.specs.Variables.{h_var};
 
 use crate::draft::Draft;
-use crate::literals::{add_home, add_teams_at_home};
+use crate::literals::{add_teams_at_home, add_venue};
 use crate::season::Season;
 use encoding_base::{meetings_in_order, pairs_of};
 use league::Side;
@@ -202,6 +202,6 @@ fn list_home_slots(draft: &mut Draft, season: &Season, team: u16) -> Result<(), 
     ensures rows { draft.new.rows ≡ draft.old.rows }
 {
     draft.literals.clear();
-    add_home(&mut draft.literals, season.n(), team, season.slots())?;
+    add_venue(&mut draft.literals, season.n(), team, true, season.slots())?;
     Ok(())
 }

@@ -1,5 +1,5 @@
 //! All rows of a league.
-ghost use Rattle.std.specs.Prelude.{◌≡◌, ◌+◌, ◌*◌, ◌^◌, ◌<◌, ◌≤◌, ◌++◌, length, IfOk, IsTrue, OnOk};
+ghost use Rattle.std.specs.Prelude.{◌≡◌, ◌+◌, ◌*◌, ◌^◌, ◌<◌, ◌≤◌, ◌++◌, [], length, IfOk, IsTrue, OnOk};
 ghost use Rattle.std.specs.List.{All};
 ghost use Rattle.league.specs.Instance.{IsTeamCount, class_fits};
 ghost use Rattle.encoding_base.specs.Encoding as encoding;
@@ -82,20 +82,38 @@ fn write_with(
         league.now.n league.now.constraints) }
 {
     let n = league.n();
-    let constraints = league.constraints();
-    let room = rows_at_most(n, constraints, terms);
+    let room = rows_at_most(n, league.constraints(), terms);
     let rows = RowStore::with_room(alloc, room, terms as usize)?;
     let mut draft = Draft::with_room(alloc, rows, n)?;
-    let season = Season::new(alloc, n)?;
-    add_season_rows(&mut draft, alloc, &season, league.phased())?;
-    add_break_rows(&mut draft, &season, breaks)?;
-    let starts = add_constraint_rows(&mut draft, alloc, &season, constraints)?;
+    let starts = add_all_rows(&mut draft, alloc, league, breaks)?;
     let Draft {
         rows,
         literals: _literals,
         terms: _terms,
     } = draft;
     Ok(Written { rows, starts })
+}
+
+/// Adds all rows of a league to a draft that has none, with variables for breaks, if it is said so. It gives the places
+/// at which the rows of each constraint begin, soft ones too, and at the end the place behind the last row.
+fn add_all_rows(
+    draft: &mut Draft,
+    alloc: Global,
+    league: &League,
+    breaks: bool,
+) -> Result<Vec<usize>, AllocError>
+    requires { draft.old.rows ≡ [] }
+    ensures rows { OnOk result (draft.new.rows ≡ encoding.season_rows league.now.n league.now.phased
+        ++ break_rows league.now.n breaks ++ constraint_rows league.now.n league.now.constraints) }
+    ensures few { OnOk result (length draft.new.rows ≤ 2433640000) }
+    ensures starts { IfOk result (λ starts. starts.items
+        ≡ starts_behind (length (encoding.season_rows league.now.n league.now.phased ++ break_rows league.now.n breaks))
+        league.now.n league.now.constraints) }
+{
+    let season = Season::new(alloc, league.n())?;
+    add_season_rows(draft, alloc, &season, league.phased())?;
+    add_break_rows(draft, &season, breaks)?;
+    add_constraint_rows(draft, alloc, &season, league.constraints())
 }
 
 /// The rows of a class that fits a league of n teams, key by key, without those that demand nothing.

@@ -1,12 +1,17 @@
 //! Whether the venue counts of a league refute it.
 ghost use Rattle.std.specs.Prelude.{◌≡◌, ◌≤◌, ◌↔◌, true, is_some, IfOk, IfSome, IsSome};
+ghost use Rattle.std.specs.List.{All};
 ghost use Rattle.league.specs.Instance.{IsInstance};
 ghost use Rattle.encoding.specs.Limit.{most_terms};
-ghost use Rattle.encoding_base.specs.Encoding.{encoding_size};
-ghost use Rattle.venue_counts.specs.CountLogs.{IsCrowdedCount, IsShortCount, IsRefuting};
-ghost use Rattle.venue_counts.specs.Needs.{IsCount, exceeds};
+ghost use Rattle.encoding_base.specs.Encoding.{encoding_size, rows_of};
+ghost use Rattle.refutation.specs.Steps.{NamesRows};
+ghost use Rattle.refutation.specs.Writable.{HasShortLines};
+ghost use Rattle.venue_counts.specs.CountLogs.{AddsUp, IsCrowdedCount, IsRefuting, IsShortCount, counted_rows};
+ghost use Rattle.venue_counts.specs.Groups.{IsGroup};
+ghost use Rattle.venue_counts.specs.Needs.{IsCount, counts_home, exceeds, need_of};
 ghost use Rattle.venue_counts.specs.VenueCounts.{are_crowded, are_short};
 
+use crate::group::Group;
 use crate::groups::groups_of;
 use crate::limit::Limit;
 use crate::log::log_of;
@@ -65,10 +70,24 @@ fn count(alloc: Global, league: &League, limit: Limit) -> Result<Option<Log>, Al
     let groups = groups_of(alloc, league, limit)?;
     for group in &groups {
         if group.exceeds(n) {
-            let encoding = encode_small(alloc, league)?;
-            let log = log_of(alloc, &encoding, group, limit)?;
+            let log = log_by(alloc, league, group, limit)?;
             return Ok(Some(log));
         }
     }
     Ok(None)
+}
+
+/// The log of a group over the rows of a league.
+fn log_by(alloc: Global, league: &League, group: &Group, limit: Limit) -> Result<Log, AllocError>
+    requires small { encoding_size league.now ≤ most_terms }
+    requires group { IsGroup limit league.now.n league.now.constraints group.now }
+    ensures adds_up { IfOk result (AddsUp (rows_of league.now)
+        (counted_rows league.now.n (counts_home limit group.now.side) group.now.slots.now
+        (need_of limit league.now.constraints group.now.side group.now.slots.now))) }
+    ensures named { IfOk result (All NamesRows) }
+    ensures short { IfOk result HasShortLines }
+{
+    let encoding = encode_small(alloc, league)?;
+    let log = log_of(alloc, &encoding, group, limit)?;
+    Ok(log)
 }

@@ -3,12 +3,11 @@ use Rattle.std.proofs.lemmas.Result.{on_ok_weaker}
 use Rattle.std.specs.List.{filter}
 use Rattle.league.specs.Capacity.{is_between}
 use Rattle.league.specs.Meetings.{meetings_of}
-use Rattle.rows.specs.Literals.{Literal}
 use Rattle.encoding_base.specs.Ascending.{AreMeetings}
 use Rattle.encoding_base.specs.Keys.{IsListable, literals_of}
-use Rattle.encoding_base.specs.Lists.{games_in}
+use Rattle.encoding_base.specs.Lists.{meetings_in_order}
 use Rattle.encoding_base.specs.declared.keys.Counted.{Counted}
-use Rattle.encoding_base.proofs.MeetingOrder.{AreMeetings-all, AreMeetings-filter}
+use Rattle.encoding_base.proofs.MeetingOrder.{AreMeetings-all, AreMeetings-filter, AreMeetings-in_order}
 use Rattle.encoding_rows.proofs.counted.add_counted.Goals as goal
 
 -- ---- what each kind of literals is made of
@@ -21,25 +20,24 @@ pub add_venues-requires-clause-slots : goal.add_venues-requires-clause-slots
 add_venues-requires-clause-slots c =
     (subst (λ (k : Counted). IsListable c.args.n k) c.in-Venues.is c.requires.listable).1
 
-pub meetings_with-requires-clause-team : goal.meetings_with-requires-clause-team
-meetings_with-requires-clause-team c =
-    (subst (λ (k : Counted). IsListable c.args.n k) c.in-Against.is c.requires.listable).0
+pub add_games-requires-clause-meetings : goal.add_games-requires-clause-meetings
+add_games-requires-clause-meetings c =
+    let n = c.args.n in
+    let side = c.in-Against.side in
+    let team = c.in-Against.team in
+    let opponents = c.in-Against.opponents.now in
+    let fits = subst (λ (k : Counted). IsListable n k) c.in-Against.is c.requires.listable in
+    let are : c.deref.result.now ≡ meetings_in_order side team opponents =
+    c.deref.ensures.value ∙ c.in_ok-meetings-in-Against.ensures in
+    subst (λ (ps : List (ℕ × ℕ)). AreMeetings n ps) (sym are)
+    (AreMeetings-in_order n side team opponents fits.0 fits.1)
 
-pub meetings_with-requires-clause-teams : goal.meetings_with-requires-clause-teams
-meetings_with-requires-clause-teams c =
-    (subst (λ (k : Counted). IsListable c.args.n k) c.in-Against.is c.requires.listable).1
-
-pub add_games_in-requires-clause-meetings : goal.add_games_in-requires-clause-meetings
-add_games_in-requires-clause-meetings c =
-    subst (λ (ps : List (ℕ × ℕ)). AreMeetings c.args.n ps) (sym c.deref.ensures.value)
-    c.in_ok-meetings-in-Against.ensures.fit
-
-pub add_games_in-requires-clause-slots : goal.add_games_in-requires-clause-slots
-add_games_in-requires-clause-slots c =
+pub add_games-requires-clause-slots : goal.add_games-requires-clause-slots
+add_games-requires-clause-slots c =
     (subst (λ (k : Counted). IsListable c.args.n k) c.in-Against.is c.requires.listable).2
 
-pub add_games_in-requires-in-Between-clause-meetings : goal.add_games_in-requires-in-Between-clause-meetings
-add_games_in-requires-in-Between-clause-meetings c =
+pub add_games-requires-in-Between-clause-meetings : goal.add_games-requires-in-Between-clause-meetings
+add_games-requires-in-Between-clause-meetings c =
     let n = c.args.n in
     let meets : ℕ × ℕ → Bool = is_between c.in-Between.side c.in-Between.teams1.now c.in-Between.teams2.now in
     let are : c.deref-in-Between.result.now ≡ filter meets (meetings_of n) =
@@ -47,16 +45,16 @@ add_games_in-requires-in-Between-clause-meetings c =
     subst (λ (ps : List (ℕ × ℕ)). AreMeetings n ps) (sym are)
     (AreMeetings-filter n meets (meetings_of n) (AreMeetings-all n))
 
-pub add_games_in-requires-in-Between-clause-slots : goal.add_games_in-requires-in-Between-clause-slots
-add_games_in-requires-in-Between-clause-slots c =
+pub add_games-requires-in-Between-clause-slots : goal.add_games-requires-in-Between-clause-slots
+add_games-requires-in-Between-clause-slots c =
     subst (λ (k : Counted). IsListable c.args.n k) c.in-Between.is c.requires.listable
 
-pub add_games_in-requires-in-Games-clause-meetings : goal.add_games_in-requires-in-Games-clause-meetings
-add_games_in-requires-in-Games-clause-meetings c =
+pub add_games-requires-in-Games-clause-meetings : goal.add_games-requires-in-Games-clause-meetings
+add_games-requires-in-Games-clause-meetings c =
     (subst (λ (k : Counted). IsListable c.args.n k) c.in-Games.is c.requires.listable).0
 
-pub add_games_in-requires-in-Games-clause-slots : goal.add_games_in-requires-in-Games-clause-slots
-add_games_in-requires-in-Games-clause-slots c =
+pub add_games-requires-in-Games-clause-slots : goal.add_games-requires-in-Games-clause-slots
+add_games-requires-in-Games-clause-slots c =
     (subst (λ (k : Counted). IsListable c.args.n k) c.in-Games.is c.requires.listable).1
 
 pub add_breaks-requires-clause-team : goal.add_breaks-requires-clause-team
@@ -93,9 +91,9 @@ returns-in-Venues c =
 
 pub returns-in-Games : goal.returns-in-Games
 returns-in-Games c =
-    on_ok_weaker c.add_games_in-in-Games.result
+    on_ok_weaker c.add_games-in-Games.result
     (λ is. is ∙ sym (ap (λ (k : Counted). c.args.literals.now.items ++ literals_of c.args.n k) c.in-Games.is))
-    c.add_games_in-in-Games.ensures
+    c.add_games-in-Games.ensures
 
 pub returns-in-Breaks : goal.returns-in-Breaks
 returns-in-Breaks c =

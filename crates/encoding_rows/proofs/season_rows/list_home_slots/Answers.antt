@@ -10,7 +10,7 @@ pub returns-clause-variables : goal.returns-clause-variables
 returns-clause-variables c =
     let home : List Literal = at_home_in c.n.result c.args.team c.slots.result.now in
     subst (λ (ls : List Literal). AllPairs (λ l m. l.var ≢ m.var) ls)
-    (sym (c.in_ok-add_home.ensures ∙ ap (λ (ls : List Literal). ls ++ home) c.clear.ensures.items))
+    (sym (c.in_ok-add_venue.ensures ∙ ap (λ (ls : List Literal). ls ++ home) c.clear.ensures.items))
     (subst (λ (n : ℕ). AllPairs (λ l m. l.var ≢ m.var) (at_home_in n c.args.team c.slots.result.now))
     (sym c.n.ensures.n)
     (venues_differ c.args.season.now H c.args.team c.slots.result.now c.slots.ensures.ascend))

@@ -2,7 +2,7 @@ use Rattle.std.proofs.Common.{arith, sym, true, ◌≡◌, ◌∙◌}
 use Rattle.encoding_base.proofs.FewLemmas.{slots_few}
 use Rattle.venue_counts.specs.Groups.{IsGroup}
 use Rattle.venue_counts.specs.Needs.{exceeds_at}
-use Rattle.venue_counts.proofs.CountedLemmas.{adds-of, all-within, count-accepted, exceeds-from, item-exceeds}
+use Rattle.venue_counts.proofs.CountedLemmas.{all-within, count-accepted, exceeds-from, item-exceeds}
 use Rattle.venue_counts.proofs.CountedLemmas.{item-group, more-within}
 use Rattle.venue_counts.proofs.counts.count.Goals as goal
 
@@ -13,6 +13,12 @@ exceeds-requires-clause-slots c =
     c.deref-group-items.result.now c.loop-group.group-index c.group-item.result c.in_ok-groups.ensures
     c.deref-group-items.ensures.value c.loop-group-test.true c.group-item.is in
     slots_few c.args.league.now.n c.group-item.result.slots.now c.n-n.ensures.instance.teams.at_most is.season
+
+pub log_by-requires-clause-group : goal.log_by-requires-clause-group
+log_by-requires-clause-group c =
+    item-group c.args.limit c.args.league.now.n c.args.league.now.constraints c.in_ok-groups.groups.items
+    c.deref-group-items.result.now c.loop-group.group-index c.group-item.result c.in_ok-groups.ensures
+    c.deref-group-items.ensures.value c.loop-group-test.true c.group-item.is
 
 pub returns-then-exceeds-clause-exceeds : goal.returns-then-exceeds-clause-exceeds
 returns-then-exceeds-clause-exceeds c =
@@ -42,8 +48,7 @@ returns-then-exceeds-clause-counted c =
       side = g.side;
       slots = g.slots.now;
       above = above;
-      adds_up = adds-of c.args.limit league c.in_ok-encoding.encoding g c.in_ok-log.log c.in_ok-encoding.ensures
-          c.in_ok-log.ensures.adds_up;
+      adds_up = c.in_ok-log.ensures.adds_up;
     }
 
 pub returns-then-exceeds-clause-refuting : goal.returns-then-exceeds-clause-refuting
@@ -60,8 +65,7 @@ returns-then-exceeds-clause-refuting c =
     record {
       accepted = count-accepted c.args.limit league g c.in_ok-log.log c.n-n.ensures.instance is c.exceeds.ensures.fits
           above
-          (adds-of c.args.limit league c.in_ok-encoding.encoding g c.in_ok-log.log c.in_ok-encoding.ensures
-          c.in_ok-log.ensures.adds_up);
+          c.in_ok-log.ensures.adds_up;
       named = c.in_ok-log.ensures.named;
       short_lines = c.in_ok-log.ensures.short;
     }

@@ -3,7 +3,7 @@ use Rattle.std.proofs.lemmas.List.{take_all}
 use Rattle.std.specs.List.{flat_map}
 use Rattle.rows.specs.Rows.{Row}
 use Rattle.encoding_base.specs.Keys.{held, key_of, rows_of_key}
-use Rattle.encoding_rows.proofs.ListedRows.{grown}
+use Rattle.encoding_base.proofs.GrownLemmas.{grown}
 use Rattle.encoding_rows.proofs.draft.Draft.add_subject.Goals as goal
 
 pub loop-place-preserved : goal.loop-place-preserved

@@ -5,7 +5,7 @@ use Rattle.rows.specs.Rows.{Row}
 use Rattle.encoding_base.specs.Keys.{rows_of_subject, subjects_of}
 use Rattle.encoding_base.specs.declared.subjects.Subject.{Subject}
 use Rattle.encoding_base.proofs.KeyLaws.{class_rows-keys}
-use Rattle.encoding_rows.proofs.ListedRows.{grown}
+use Rattle.encoding_base.proofs.GrownLemmas.{grown}
 use Rattle.encoding_rows.proofs.draft.Draft.add_subjects.Goals as goal
 
 pub loop-place-preserved : goal.loop-place-preserved

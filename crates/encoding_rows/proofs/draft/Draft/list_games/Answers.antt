@@ -1,14 +1,9 @@
 use Rattle.std.proofs.Common.{◌≢◌, List, ◌++◌, ap, sym, subst, ◌∙◌}
 use Rattle.std.specs.List.{AllPairs}
-use Rattle.league.specs.Counts.{slot_count}
 use Rattle.rows.specs.Literals.{Literal}
 use Rattle.encoding_base.specs.Lists.{games_in}
-use Rattle.encoding_base.proofs.AscendLemmas.{AscendsBy-below}
 use Rattle.encoding_rows.proofs.LiteralOrder.{games_differ}
 use Rattle.encoding_rows.proofs.draft.Draft.list_games.Goals as goal
-
-pub add_games-requires-clause-slots : goal.add_games-requires-clause-slots
-add_games-requires-clause-slots c = AscendsBy-below (λ s. s) 0 c.args.slots.now (slot_count c.args.n) c.requires.slots
 
 pub returns-clause-variables : goal.returns-clause-variables
 returns-clause-variables c =
