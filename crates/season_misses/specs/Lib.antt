@@ -17,8 +17,8 @@ pub mod Order
 pub mod Lacks
 -- Kept inside (laws, and how fields are seen):
 --
--- What a class bounds:
-pub mod Groups
+-- The parts of a sentence by its class:
+pub mod Sentences
 -- A row without where its reason lies in memory, and what is kept of a season:
 pub mod SeenRow
 pub mod SeenTold

@@ -1,5 +1,5 @@
 //! The lines of FA2 and SE1.
-ghost use Rattle.std.specs.Prelude.{◌≡◌, map, decimal, IfOk, string_bytes};
+ghost use Rattle.std.specs.Prelude.{◌≡◌, map, decimal, IfOk, Some, string_bytes};
 ghost use Rattle.league.specs.Separation as separation;
 ghost use Rattle.season_misses.specs.Lines as lines;
 
@@ -11,6 +11,7 @@ use crate::numbers::HowMany;
 use league::Game;
 use reasons::Cause;
 use std::alloc::{AllocError, Global};
+use std::fmt;
 
 /// The slots of games, each as a text.
 fn slot_labels(alloc: Global, games: &[Game]) -> Result<Vec<Label>, AllocError>
@@ -50,42 +51,29 @@ struct AtHome<'a> {
     games: &'a [Game],
 }
 
-/// How many home games two teams have after a slot.
-fn apart_front(
-    alloc: Global,
+/// Two teams with their home games up to a slot, shown as how many each has.
+#[derive(Drop)]
+struct Lead<'a> {
     slot: u16,
-    more: AtHome<'_>,
-    fewer: AtHome<'_>,
-) -> Result<String, AllocError>
-    ensures { IfOk result (λ text. string_bytes text ≡ lines.apart_front slot more.entry.who.now
-        more.entry.games.now fewer.entry.who.now fewer.entry.games.now) }
-{
-    let who = more.who;
-    let other = fewer.who;
-    let games = HowMany {
-        count: more.games.len() as u64,
-        noun: "home game",
-    };
-    let count = Count(fewer.games.len() as u64);
-    format!(in alloc; "after slot {slot} {who} has {games} and {other} {count}")
+    more: AtHome<'a>,
+    fewer: AtHome<'a>,
 }
 
-/// How far two teams are apart, and in which slots their home games are.
-fn apart_back(
-    alloc: Global,
-    intp: u32,
-    more: AtHome<'_>,
-    fewer: AtHome<'_>,
-) -> Result<String, AllocError>
-    ensures { IfOk result (λ text. string_bytes text ≡ lines.apart_back intp more.entry.who.now
-        more.entry.games.now fewer.entry.who.now fewer.entry.games.now) }
-{
-    let who = more.who;
-    let apart = (more.games.len() as u64).saturating_sub(fewer.games.len() as u64);
-    let much = apart.saturating_sub(u64::from(intp));
-    let slots = slots_of_games(alloc, more.games)?;
-    let too = played_too(alloc, fewer.who, fewer.games)?;
-    format!(in alloc; "{apart} apart, {much} too many: {who} in {slots}{too}")
+impl fmt::Display for Lead<'_> {
+    ghost output = { λ x. Some (lines.apart_front x.slot x.more.who.now x.more.games.now x.fewer.who.now
+        x.fewer.games.now) };
+
+    fn fmt<W: fmt::Write>(&self, f: &mut fmt::Formatter<W>) -> fmt::Result {
+        let slot = self.slot;
+        let who = self.more.who;
+        let other = self.fewer.who;
+        let games = HowMany {
+            count: self.more.games.len() as u64,
+            noun: "home game",
+        };
+        let count = Count(self.fewer.games.len() as u64);
+        write!(f, "after slot {slot} {who} has {games} and {other} {count}")
+    }
 }
 
 /// Two teams too far apart after a slot, the one with more home games first.
@@ -99,9 +87,13 @@ fn apart_line(
     ensures { IfOk result (λ text. string_bytes text ≡ lines.apart_line intp slot more.entry.who.now
         more.entry.games.now fewer.entry.who.now fewer.entry.games.now) }
 {
-    let front = apart_front(alloc, slot, more, fewer)?;
-    let back = apart_back(alloc, intp, more, fewer)?;
-    format!(in alloc; "{front}, {back}")
+    let who = more.who;
+    let apart = (more.games.len() as u64).saturating_sub(fewer.games.len() as u64);
+    let much = apart.saturating_sub(u64::from(intp));
+    let lead = Lead { slot, more, fewer };
+    let slots = slots_of_games(alloc, more.games)?;
+    let too = played_too(alloc, fewer.who, fewer.games)?;
+    format!(in alloc; "{lead}, {apart} apart, {much} too many: {who} in {slots}{too}")
 }
 
 /// The line on two teams too far apart after a slot.

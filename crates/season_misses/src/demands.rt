@@ -1,10 +1,11 @@
 //! The sentence of each class.
-ghost use Rattle.std.specs.Prelude.{◌≡◌, ◌<◌, ◌≤◌, [], ◌∷◌, length, map, string_bytes, IfOk, IsTrue, Some};
+ghost use Rattle.std.specs.Prelude.{◌≡◌, ◌<◌, ◌≤◌, length, map, string_bytes, IfOk, IsTrue, Some};
 ghost use Rattle.std.specs.List.{All};
 ghost use Rattle.league.specs.Instance.{are_meetings, class_fits};
 ghost use Rattle.league.specs.declared.class.Class.TheVariants.{Ga1};
 ghost use Rattle.season_misses.specs.Demands as demands;
-ghost use Rattle.season_misses.specs.Groups.{is_of_breaks, is_of_crowds, is_of_games, is_of_pairs};
+ghost use Rattle.season_misses.specs.Phrases.{bounds_text};
+ghost use Rattle.season_misses.specs.Sentences as sentences;
 
 use crate::label::Label;
 use crate::lists::listed;
@@ -85,28 +86,18 @@ fn meeting_labels(
     Ok(labels)
 }
 
-/// The sentence of a GA1 of one meeting.
-fn one_meeting(
-    alloc: Global,
-    names: &[Label],
-    bounds: Bounds,
-    meeting: (u16, u16),
-    season: &str,
-) -> Result<String, AllocError>
-    requires home { meeting.0 < length names.now }
-    requires away { meeting.1 < length names.now }
-    ensures { IfOk result (λ text. string_bytes text
-        ≡ demands.meetings_text names.now bounds.min bounds.max (meeting ∷ []) season.now) }
+/// Whether it is one meeting that is to be there or isn't.
+fn is_one(bounds: Bounds, meetings: &[(u16, u16)]) -> bool
+    ensures { result ≡ sentences.is_one bounds.min bounds.max meetings.now }
 {
-    let game = meeting_text(alloc, names, meeting)?;
-    if bounds.min == bounds.max && bounds.max < 2 {
-        if bounds.max == 0 {
-            return format!(in alloc; "the game {game}: not in {season}");
-        }
-        return format!(in alloc; "the game {game}: in {season}");
-    }
-    let bare = Bare(bounds);
-    format!(in alloc; "of the games {game}: {bare} in {season}")
+    meetings.len() == 1 && bounds.min == bounds.max && bounds.max < 2
+}
+
+/// What stands before the slots of a game of which so many are to be there.
+fn not_text(max: u32) -> &'static str
+    ensures { result.now ≡ sentences.not_text max }
+{
+    if max == 0 { "not " } else { "" }
 }
 
 /// The sentence of a GA1 of some meetings.
@@ -121,19 +112,17 @@ fn meetings_text(
     ensures { IfOk result (λ text. string_bytes text
         ≡ demands.meetings_text names.now bounds.min bounds.max meetings.now season.now) }
 {
-    match meetings {
-        [] => {
-            let bare = Bare(bounds);
-            format!(in alloc; "of no game: {bare} in {season}")
-        }
-        [meeting] => one_meeting(alloc, names, bounds, *meeting, season),
-        _ => {
-            let bare = Bare(bounds);
-            let labels = meeting_labels(alloc, names, meetings)?;
-            let games = listed(alloc, "and", &labels)?;
-            format!(in alloc; "of the games {games}: {bare} in {season}")
-        }
+    let bare = Bare(bounds);
+    if meetings.is_empty() {
+        return format!(in alloc; "of no game: {bare} in {season}");
     }
+    let labels = meeting_labels(alloc, names, meetings)?;
+    let games = listed(alloc, "and", &labels)?;
+    if is_one(bounds, meetings) {
+        let not = not_text(bounds.max);
+        return format!(in alloc; "the game {games}: {not}in {season}");
+    }
+    format!(in alloc; "of the games {games}: {bare} in {season}")
 }
 
 /// The sentence of a GA1.
@@ -151,117 +140,6 @@ fn ga1_words(
 {
     let season = all_slots(alloc, names.len() as u16, slots)?;
     meetings_text(alloc, names, bounds, meetings.numbers(), &season)
-}
-
-/// The sentence of a CA1 or a CA2.
-fn games_words(alloc: Global, names: &[Label], class: &Class) -> Result<String, AllocError>
-    requires few { length names.now ≤ 40 }
-    requires fits { IsTrue (class_fits (length names.now) class.now) }
-    requires group { IsTrue (is_of_games class.now) }
-    ensures { IfOk result (λ text. string_bytes text ≡ demands.demand_text (length names.now) names.now class.now) }
-{
-    let n = names.len() as u16;
-    match class {
-        Class::Ca1 {
-            teams,
-            min,
-            max,
-            side,
-            slots,
-        } => {
-            let who = each_team(alloc, names, teams)?;
-            let what = demanded(*min, *max, game_noun(*side));
-            let season = all_slots(alloc, n, slots)?;
-            format!(in alloc; "{who}: {what} in {season}")
-        }
-        Class::Ca2 {
-            teams1,
-            teams2,
-            min,
-            max,
-            side,
-            slots,
-        } => {
-            let who = each_team(alloc, names, teams1)?;
-            let what = demanded(*min, *max, game_noun(*side));
-            let against = against_teams(alloc, names, teams2)?;
-            let season = all_slots(alloc, n, slots)?;
-            format!(in alloc; "{who}: {what}{against} in {season}")
-        }
-        _ => unreachable!(),
-    }
-}
-
-/// The sentence of a CA3 or a CA4.
-fn crowds_words(alloc: Global, names: &[Label], class: &Class) -> Result<String, AllocError>
-    requires few { length names.now ≤ 40 }
-    requires fits { IsTrue (class_fits (length names.now) class.now) }
-    requires group { IsTrue (is_of_crowds class.now) }
-    ensures { IfOk result (λ text. string_bytes text ≡ demands.demand_text (length names.now) names.now class.now) }
-{
-    let n = names.len() as u16;
-    match class {
-        Class::Ca3 {
-            teams1,
-            teams2,
-            min,
-            max,
-            intp,
-            side,
-        } => {
-            let who = each_team(alloc, names, teams1)?;
-            let what = demanded(*min, *max, game_noun(*side));
-            let against = against_teams(alloc, names, teams2)?;
-            let row = windows(alloc, n, *intp)?;
-            format!(in alloc; "{who}: {what}{against}{row}")
-        }
-        Class::Ca4 {
-            teams1,
-            teams2,
-            min,
-            max,
-            side,
-            span,
-            slots,
-        } => {
-            let who = all_teams(alloc, names, teams1)?;
-            let what = demanded(*min, *max, game_noun(*side));
-            let against = against_teams(alloc, names, teams2)?;
-            let season = span_slots(alloc, n, *span, slots)?;
-            format!(in alloc; "{who}: {what}{against} in {season}")
-        }
-        _ => unreachable!(),
-    }
-}
-
-/// The sentence of a BR1 or a BR2.
-fn breaks_words(alloc: Global, names: &[Label], class: &Class) -> Result<String, AllocError>
-    requires few { length names.now ≤ 40 }
-    requires fits { IsTrue (class_fits (length names.now) class.now) }
-    requires group { IsTrue (is_of_breaks class.now) }
-    ensures { IfOk result (λ text. string_bytes text ≡ demands.demand_text (length names.now) names.now class.now) }
-{
-    let n = names.len() as u16;
-    match class {
-        Class::Br1 {
-            teams,
-            intp,
-            side,
-            slots,
-        } => {
-            let who = each_team(alloc, names, teams)?;
-            let what = demanded(0, *intp, break_noun(*side));
-            let season = all_slots(alloc, n, slots)?;
-            format!(in alloc; "{who}: {what} in {season}")
-        }
-        Class::Br2 { teams, intp, slots } => {
-            let who = all_teams(alloc, names, teams)?;
-            let what = demanded(0, *intp, "break");
-            let season = all_slots(alloc, n, slots)?;
-            format!(in alloc; "{who}: {what} in {season}")
-        }
-        _ => unreachable!(),
-    }
 }
 
 /// A number that is shown as how far apart two teams may be.
@@ -302,27 +180,118 @@ impl fmt::Display for Between {
     }
 }
 
-/// The sentence of an FA2 or an SE1.
-fn pairs_words(alloc: Global, names: &[Label], class: &Class) -> Result<String, AllocError>
-    requires few { length names.now ≤ 40 }
-    requires fits { IsTrue (class_fits (length names.now) class.now) }
-    requires group { IsTrue (is_of_pairs class.now) }
-    ensures { IfOk result (λ text. string_bytes text ≡ demands.demand_text (length names.now) names.now class.now) }
+/// What a class bounds that bounds a number of games or of breaks.
+fn bounded_of(class: &Class) -> Bounded<'static>
+    requires { IsTrue (sentences.bounds_many class.now) }
+    ensures { bounds_text result.bounds.min result.bounds.max result.noun.now ≡ sentences.what class.now }
 {
     match class {
-        Class::Fa2 { teams, intp, slots } => {
-            let who = two_teams(alloc, names, teams)?;
-            let what = Apart(*intp);
-            let season = each_slot(alloc, names.len() as u16, slots)?;
-            format!(in alloc; "{who}: {what}{season}")
-        }
-        Class::Se1 { teams, min } => {
-            let who = two_teams(alloc, names, teams)?;
-            let what = Between(*min);
-            format!(in alloc; "{who}: {what}")
-        }
+        Class::Ca1 { min, max, side, .. }
+        | Class::Ca2 { min, max, side, .. }
+        | Class::Ca3 { min, max, side, .. }
+        | Class::Ca4 { min, max, side, .. } => demanded(*min, *max, game_noun(*side)),
+        Class::Ga1 { min, max, .. } => demanded(*min, *max, "game"),
+        Class::Br1 { intp, side, .. } => demanded(0, *intp, break_noun(*side)),
+        Class::Br2 { intp, .. } => demanded(0, *intp, "break"),
         _ => unreachable!(),
     }
+}
+
+/// A class that is shown as what it demands of its teams.
+#[derive(Drop)]
+struct Demand<'a>(&'a Class);
+
+impl fmt::Display for Demand<'_> {
+    ghost output = { λ x. Some (sentences.what x.0.now) };
+
+    fn fmt<W: fmt::Write>(&self, f: &mut fmt::Formatter<W>) -> fmt::Result {
+        match self.0 {
+            Class::Fa2 { intp, .. } => {
+                let what = Apart(*intp);
+                write!(f, "{what}")
+            }
+            Class::Se1 { min, .. } => {
+                let what = Between(*min);
+                write!(f, "{what}")
+            }
+            class => {
+                let what = bounded_of(class);
+                write!(f, "{what}")
+            }
+        }
+    }
+}
+
+/// The teams that a constraint is about; nothing for a GA1.
+fn who_text(alloc: Global, names: &[Label], class: &Class) -> Result<String, AllocError>
+    requires { IsTrue (class_fits (length names.now) class.now) }
+    ensures { IfOk result (λ text. string_bytes text ≡ sentences.who (length names.now) names.now class.now) }
+{
+    match class {
+        Class::Ca1 { teams, .. }
+        | Class::Ca2 { teams1: teams, .. }
+        | Class::Ca3 { teams1: teams, .. }
+        | Class::Br1 { teams, .. } => each_team(alloc, names, teams),
+        Class::Ca4 { teams1: teams, .. } | Class::Br2 { teams, .. } => {
+            all_teams(alloc, names, teams)
+        }
+        Class::Fa2 { teams, .. } | Class::Se1 { teams, .. } => two_teams(alloc, names, teams),
+        Class::Ga1 { .. } => Ok(String::new(alloc)),
+    }
+}
+
+/// The teams against which games are counted, where only those against some are.
+fn against_text(alloc: Global, names: &[Label], class: &Class) -> Result<String, AllocError>
+    requires { IsTrue (class_fits (length names.now) class.now) }
+    ensures { IfOk result (λ text. string_bytes text ≡ sentences.against (length names.now) names.now class.now) }
+{
+    match class {
+        Class::Ca2 { teams2, .. } | Class::Ca3 { teams2, .. } | Class::Ca4 { teams2, .. } => {
+            against_teams(alloc, names, teams2)
+        }
+        _ => Ok(String::new(alloc)),
+    }
+}
+
+/// What stands before the slots of a constraint.
+fn link(class: &Class) -> &'static str
+    ensures { result.now ≡ sentences.link class.now }
+{
+    match class {
+        Class::Ca3 { .. } | Class::Ga1 { .. } | Class::Fa2 { .. } | Class::Se1 { .. } => "",
+        _ => " in ",
+    }
+}
+
+/// The slots of a constraint of a league of n teams; nothing for a GA1 or an SE1.
+fn place_text(alloc: Global, n: u16, class: &Class) -> Result<String, AllocError>
+    requires { n ≤ 40 }
+    ensures { IfOk result (λ text. string_bytes text ≡ sentences.place n class.now) }
+{
+    match class {
+        Class::Ca1 { slots, .. }
+        | Class::Ca2 { slots, .. }
+        | Class::Br1 { slots, .. }
+        | Class::Br2 { slots, .. } => all_slots(alloc, n, slots),
+        Class::Ca3 { intp, .. } => windows(alloc, n, *intp),
+        Class::Ca4 { span, slots, .. } => span_slots(alloc, n, *span, slots),
+        Class::Fa2 { slots, .. } => each_slot(alloc, n, slots),
+        Class::Ga1 { .. } | Class::Se1 { .. } => Ok(String::new(alloc)),
+    }
+}
+
+/// The sentence of any class but GA1, by its parts.
+fn parts_text(alloc: Global, names: &[Label], class: &Class) -> Result<String, AllocError>
+    requires few { length names.now ≤ 40 }
+    requires fits { IsTrue (class_fits (length names.now) class.now) }
+    ensures { IfOk result (λ text. string_bytes text ≡ sentences.parts_text (length names.now) names.now class.now) }
+{
+    let who = who_text(alloc, names, class)?;
+    let what = Demand(class);
+    let against = against_text(alloc, names, class)?;
+    let link = link(class);
+    let place = place_text(alloc, names.len() as u16, class)?;
+    format!(in alloc; "{who}: {what}{against}{link}{place}")
 }
 
 /// What a constraint demands, in words. The names are those of all teams of the league, by number.
@@ -344,10 +313,7 @@ pub fn demand_words(alloc: Global, names: &[Label], class: &Class) -> Result<Str
             let (min, max) = (*min, *max);
             ga1_words(alloc, names, Bounds { min, max }, meetings, slots)
         }
-        Class::Ca3 { .. } | Class::Ca4 { .. } => crowds_words(alloc, names, class),
-        Class::Br1 { .. } | Class::Br2 { .. } => breaks_words(alloc, names, class),
-        Class::Fa2 { .. } | Class::Se1 { .. } => pairs_words(alloc, names, class),
-        _ => games_words(alloc, names, class),
+        _ => parts_text(alloc, names, class),
     }
 }
 

@@ -1,7 +1,6 @@
 //! Texts in lists.
-ghost use Rattle.std.specs.Prelude.{◌≡◌, IfOk, string_bytes};
+ghost use Rattle.std.specs.Prelude.{◌≡◌, string_bytes};
 
-use std::alloc::{AllocError, Global};
 use std::marker::Model;
 
 /// A text, as the name of a team, seen as the list of its bytes.
@@ -31,14 +30,5 @@ impl Label {
         ensures { result.now ≡ self.now }
     {
         self.text.as_str()
-    }
-
-    /// An equal text.
-    pub(crate) fn copy(&self, alloc: Global) -> Result<Label, AllocError>
-        ensures { IfOk result (λ copy. copy ≡ self.now) }
-    {
-        Ok(Label {
-            text: String::from_str(alloc, self.text())?,
-        })
     }
 }

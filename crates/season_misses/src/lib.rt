@@ -29,6 +29,5 @@ mod told;
 pub use demands::{constraint_words, demand_words};
 pub use label::Label;
 pub use lists::listed;
-pub use numbers::many;
 pub use structure::lacks;
 pub use told::{Told, misses};

@@ -29,14 +29,13 @@ fn push_last(text: &mut String, word: &str, items: &[Label]) -> Result<(), Alloc
     ensures { OnOk result (string_bytes text.new ≡ string_bytes text.old ++ phrases.listed word.now items.now) }
 {
     match items {
-        [] => {}
-        [only] => text.push_str(only.text())?,
+        [] => Ok(()),
+        [only] => text.push_str(only.text()),
         [first, second] => {
             let first = first.text();
             let second = second.text();
-            write!(text, "{first} {word} {second}")?;
+            write!(text, "{first} {word} {second}")
         }
         _ => unreachable!(),
     }
-    Ok(())
 }

@@ -1,9 +1,8 @@
 //! How many.
-ghost use Rattle.std.specs.Prelude.{◌≡◌, string_bytes, IfOk, Some};
+ghost use Rattle.std.specs.Prelude.{Some};
 ghost use Rattle.season_misses.specs.Phrases as phrases;
 
 use league::Bounds;
-use std::alloc::{AllocError, Global};
 use std::fmt;
 
 /// So many of something, shown as `no game`, `1 game`, `2 games`.
@@ -24,17 +23,6 @@ impl fmt::Display for HowMany<'_> {
             count => write!(f, "{count} {noun}s"),
         }
     }
-}
-
-/// `no game`, `1 game`, `2 games`.
-///
-/// # Errors
-/// Only where memory runs out.
-pub fn many(alloc: Global, count: u64, noun: &str) -> Result<String, AllocError>
-    ensures { IfOk result (λ text. string_bytes text ≡ phrases.many count noun.now) }
-{
-    let many = HowMany { count, noun };
-    format!(in alloc; "{many}")
 }
 
 /// From low to high of something.

@@ -162,60 +162,46 @@ fn push_team(
     lack: Lack,
     season: Named<'_>,
     i: u16,
-    seconds: &[u16],
+    seconds: u16,
 ) -> Result<(), AllocError>
     ensures { OnOk result (lines.new.items ≡ lines.old.items ++ flat_map
-        (lacks.lack_at lack season.entry.n season.entry.names.now season.entry.games.now i) seconds.now) }
+        (lacks.lack_at lack season.entry.n season.entry.names.now season.entry.games.now i)
+        (range_with_len 0 seconds)) }
 {
-    for j in seconds {
-        push_lack(lines, lack, season, i, *j)?;
+    for j in 0..seconds {
+        push_lack(lines, lack, season, i, j)?;
     }
     Ok(())
 }
 
-/// Adds the lines of some teams, with other teams or with slots.
+/// Adds the lines of all teams, with other teams or with slots.
 fn push_teams(
     lines: &mut Vec<Label>,
     lack: Lack,
     season: Named<'_>,
-    firsts: &[u16],
-    seconds: &[u16],
+    seconds: u16,
 ) -> Result<(), AllocError>
     ensures { OnOk result (lines.new.items ≡ lines.old.items ++ lacks.lacks_at lack season.entry.n
-        season.entry.names.now season.entry.games.now firsts.now seconds.now) }
+        season.entry.names.now season.entry.games.now (range_with_len 0 season.entry.n) (range_with_len 0 seconds)) }
 {
-    for i in firsts {
-        push_team(lines, lack, season, *i, seconds)?;
+    for i in 0..season.n {
+        push_team(lines, lack, season, i, seconds)?;
     }
     Ok(())
 }
 
-/// The numbers below one.
-fn numbers_below(alloc: Global, count: u16) -> Result<Vec<u16>, AllocError>
-    ensures { IfOk result (λ numbers. numbers.items ≡ range_with_len 0 count) }
-{
-    let mut numbers = Vec::new(alloc);
-    for number in 0..count {
-        numbers.push(number)?;
-    }
-    Ok(numbers)
-}
-
-/// All lines, of a league that is phased or not.
-fn lines_of(alloc: Global, phased: bool, season: Named<'_>) -> Result<Vec<Label>, AllocError>
+/// Adds all lines, of a league that is phased or not.
+fn push_lacks(lines: &mut Vec<Label>, phased: bool, season: Named<'_>) -> Result<(), AllocError>
     requires { season.n ≤ 40 }
-    ensures { IfOk result (λ lines. lines.items
-        ≡ lacks.lacks season.entry.n phased season.entry.names.now season.entry.games.now) }
+    ensures { OnOk result (lines.new.items ≡ lines.old.items
+        ++ lacks.lacks season.entry.n phased season.entry.names.now season.entry.games.now) }
 {
-    let teams = numbers_below(alloc, season.n)?;
-    let slots = numbers_below(alloc, slot_count(season.n))?;
-    let mut lines = Vec::new(alloc);
-    push_teams(&mut lines, Lack::Meeting, season, &teams, &teams)?;
-    push_teams(&mut lines, Lack::Cell, season, &teams, &slots)?;
+    push_teams(lines, Lack::Meeting, season, season.n)?;
+    push_teams(lines, Lack::Cell, season, slot_count(season.n))?;
     if phased {
-        push_teams(&mut lines, Lack::Early, season, &teams, &teams)?;
+        push_teams(lines, Lack::Early, season, season.n)?;
     }
-    Ok(lines)
+    Ok(())
 }
 
 /// Whether nothing is wrong.
@@ -245,7 +231,8 @@ pub fn lacks(
         return Ok(String::new(alloc));
     }
     let n = league.n();
-    let lines = lines_of(alloc, league.phased(), Named { n, names, games })?;
+    let mut lines = Vec::new(alloc);
+    push_lacks(&mut lines, league.phased(), Named { n, names, games })?;
     let mut text = String::from_str(alloc, "no double round robin:\n")?;
     push_cut(&mut text, "  ", " more", most, &lines)?;
     text.push_str("\n")?;

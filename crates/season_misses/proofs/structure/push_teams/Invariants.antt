@@ -1,4 +1,5 @@
-use Rattle.std.proofs.Common.{◌≡◌, ◌++◌, take}
+use Rattle.std.proofs.Common.{◌≡◌, ◌++◌}
+use Rattle.std.specs.List.{range_with_len}
 use Rattle.season_misses.specs.Lacks.{lacks_at}
 use Rattle.season_misses.proofs.structure.push_teams.Given as goal
 
@@ -6,4 +7,4 @@ use Rattle.season_misses.proofs.structure.push_teams.Given as goal
 abbrev pub invariant-loop-i : goal.invariant-loop-i
 invariant-loop-i l =
     l.lines.items
-    ≡ l.fn.lines.items ++ lacks_at l.lack l.season.n l.season.names.now l.season.games.now (take l.i-index l.firsts) l.seconds
+    ≡ l.fn.lines.items ++ lacks_at l.lack l.season.n l.season.names.now l.season.games.now (range_with_len 0 l.i) (range_with_len 0 l.seconds)
