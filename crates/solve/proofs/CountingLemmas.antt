@@ -1,5 +1,5 @@
 -- What counts that refute say of a league.
-use Rattle.std.proofs.Common.{◌≡◌, Bool, true, false, List, Option, Some, None, ◌↔◌}
+use Rattle.std.proofs.Common.{◌≡◌, Bool, true, false, List, Option, Some, None, Result, Ok, ◌↔◌, refl}
 use Rattle.std.specs.Prelude.{IfSome, IsSome}
 use Rattle.std.proofs.lemmas.Bool.{false_from_ne_true}
 use Rattle.league.specs.Instance.{Instance, IsInstance}
@@ -26,3 +26,9 @@ pub none_told : (found : Option (List Step)) (told : Bool) → found ≡ None �
     → told ≡ false
 none_told None told is tells = false_from_ne_true told (λ yes. let some : false ≡ true = tells.1 yes in absurd (cc))
 none_told (Some log) told is tells = absurd (cc)
+
+-- and what is so only where something is found is not
+pub never_told : {X E : Type 0} (found : Option X) (told : Bool) → ((x : X) → found ≡ Some x → ⊥)
+    → (◌≡◌ {A = Result (Option X) E} (Ok found) (Ok None) → told ≡ false) → told ≡ true → ⊥
+never_told {X} {E} None told none says is = let no : told ≡ false = says refl in absurd (cc)
+never_told {X} {E} (Some x) told none says is = none x refl

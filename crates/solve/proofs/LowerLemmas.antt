@@ -1,7 +1,8 @@
 -- What a descent makes of an accepted schedule.
 use Rattle.std.proofs.Common.{◌≡◌, ◌⊎◌, ℕ, ◌≤◌, Bool, true, false, List, [], ◌∷◌, length, reverse, Some}
-use Rattle.std.proofs.Common.{inl, inr, arith, ap, refl, sym, subst, ◌∙◌}
+use Rattle.std.proofs.Common.{Result, Ok, Err, inl, inr, arith, ap, refl, sym, subst, ◌∙◌}
 use Rattle.std.specs.List.{All}
+use Rattle.std.specs.Prelude.{IfOk}
 use Rattle.std.proofs.lemmas.Bool.{cases_Bool}
 use Rattle.league.specs.Accepted.{IsAccepted, objective}
 use Rattle.league.specs.Counts.{Counts, counts_of}
@@ -164,7 +165,7 @@ season-settled league moves may_stop season by some none_lower =
     some by.is_kept none)
 
 -- a descent that may make a move and doesn't better its start leaves no move that does, unless it may be stopped
-pub settled-start : (league : Instance) (m : Counts) (moves : ℕ) (may_stop : Type 0) (season : Season)
+settled-start : (league : Instance) (m : Counts) (moves : ℕ) (may_stop : Type 0) (season : Season)
     → IsSeasonBy league moves may_stop season → counts_of season.descent.first ≡ m → 1 ≤ moves
     → objective league m ≤ season.objective
     → may_stop ⊎ IsSettled league.n league.phased (league_score league) m
@@ -172,6 +173,16 @@ settled-start league m moves may_stop season by first some none_lower =
     subst (λ (k : Counts). may_stop ⊎ IsSettled league.n league.phased (league_score league) k) first
     (season-settled league moves may_stop season by some
     (subst (λ (k : Counts). objective league k ≤ season.objective) (sym first) none_lower))
+
+-- and so where it is known only of a descent that didn't fail
+pub found-settled : {E : Type 0} (league : Instance) (m : Counts) (moves : ℕ) (may_stop : Type 0)
+    (found : Result Season E) → IfOk found (IsSeasonBy league moves may_stop)
+    → IfOk found (λ season. counts_of season.descent.first ≡ m) → 1 ≤ moves
+    → IfOk found (λ season. objective league m ≤ season.objective
+    → may_stop ⊎ IsSettled league.n league.phased (league_score league) m)
+found-settled {E} league m moves may_stop (Ok season) by first some =
+    settled-start league m moves may_stop season by first some
+found-settled {E} league m moves may_stop (Err error) by first some = tt
 
 -- with as many moves as the first objective says it is settled
 pub IsDescent-settles : (league : Instance) (moves : ℕ) (may_stop : Type 0) (games : List Game) (descent : Descended)

@@ -11,7 +11,7 @@ ghost use Rattle.solve.specs.Tried.{IsSeasonBy, IsTriedBy};
 use crate::from_walk::try_walk;
 use crate::lower::Season;
 use crate::share::Share;
-use crate::told::{lowered_told, tell_found};
+use crate::told::{lowered_told, tell_accepted};
 use crate::tries::{Tried, with_walked};
 use clause_search::Found;
 use decoding::decode;
@@ -147,6 +147,6 @@ fn accepted<W: Listener>(
 {
     let league = encoding.league();
     let schedule = decode(alloc, encoding, values)?;
-    tell_found(alloc, league, &schedule, watch)?;
+    let _accepted = tell_accepted(alloc, league, &schedule, watch)?;
     lowered_told(alloc, league, &schedule, moves, 0, watch)
 }

@@ -6,9 +6,8 @@ ghost use Rattle.circle_method.specs.Circle.{double_games};
 ghost use Rattle.solve.specs.Tried.{IsSeasonBy};
 
 use crate::lower::Season;
-use crate::told::lowered_told;
+use crate::told::{lowered_told, tell_accepted};
 use circle_method::double;
-use deviation::assess;
 use league::League;
 use robin_watch::Listener;
 use std::alloc::{AllocError, Global};
@@ -29,11 +28,10 @@ pub(crate) fn try_circle<W: Listener>(
 {
     let mut schedule = double(alloc, league.n())?;
     schedule.put_in_order();
-    let assessment = assess(alloc, league, &schedule)?;
-    if !assessment.feasible {
+    let accepted = tell_accepted(alloc, league, &schedule, watch)?;
+    if !accepted {
         return Ok(None);
     }
-    watch.tell_season(league, schedule.games(), assessment.objective, 0);
     let season = lowered_told(alloc, league, &schedule, moves, 0, watch)?;
     Ok(Some(season))
 }

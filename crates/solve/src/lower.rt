@@ -5,16 +5,19 @@ ghost use Rattle.league.specs.Accepted.{IsAccepted};
 ghost use Rattle.league.specs.Accepted as costs;
 ghost use Rattle.league.specs.Counts.{counts_of};
 ghost use Rattle.league.specs.Instance.{IsGame};
+ghost use Rattle.rule_core.specs.Table.{table_counts};
+ghost use Rattle.tally.specs.League.{AreRulesOf};
 ghost use Rattle.descent.specs.Settled.{IsSettled};
 ghost use Rattle.solve.specs.Solutions.{IsSchedule, league_score};
 ghost use Rattle.solve.specs.Tried.{IsSeasonBy};
 
 use descent::{Descent, descend_watched, season_of};
+use deviation::AnyRule;
 use league::{League, Schedule};
 use robin_watch::{Unwatched, Watch};
-use rule_core::{Plain, Steps};
+use rule_core::{Entries, Plain, Steps};
 use std::alloc::{AllocError, Global};
-use tally::league_tally;
+use tally::{Tally, league_tally};
 
 /// A schedule that is accepted, in order, with its objective, and the descent that led to it.
 #[derive(Drop)]
@@ -69,8 +72,29 @@ pub fn lowered_watched<W: Watch>(
 {
     let mut steps = Steps::<Plain>::start();
     let mut tally = league_tally(alloc, league, 1, start.games(), &mut steps)?;
+    descended(alloc, league, &mut tally, moves, &mut steps, watch)
+}
+
+/// The schedule to which such a descent leads from the games of a tally.
+///
+/// # Errors
+/// Only where memory runs out.
+fn descended<W: Watch>(
+    alloc: Global,
+    league: &League,
+    tally: &mut Tally<AnyRule>,
+    moves: u64,
+    steps: &mut Steps<Plain>,
+    watch: &W,
+) -> Result<Season, AllocError>
+    requires rules { AreRulesOf ⟦<AnyRule as Entries>⟧ 1 league.now tally.old.weights }
+    requires teams { tally.old.table.n ≡ league.now.n }
+    requires accepted { IsAccepted league.now (table_counts tally.old.table) }
+    ensures season { IfOk result (IsSeasonBy league.now moves (W.may_stop watch.now)) }
+    ensures first { IfOk result (λ season. counts_of season.descent.first ≡ table_counts tally.old.table) }
+{
     let phased = league.phased();
-    let descent = descend_watched(alloc, phased, &mut tally, moves, &mut steps, watch)?;
+    let descent = descend_watched(alloc, phased, tally, moves, steps, watch)?;
     let schedule = season_of(alloc, phased, tally.cells())?;
     Ok(Season {
         schedule,

@@ -130,12 +130,11 @@ fn best_with_circle<W: Listener>(
     ensures schedule { IfOk result HasSchedule }
     ensures best { IfOk result (IsBest league.now budgets (W.may_stop watch.now)) }
 {
-    let first = schedule_found(season);
     if budgets.tries <= 1 {
-        return Ok(first);
+        return Ok(schedule_found(season));
     }
     let encoding = encode_small(alloc, league)?;
-    best_from(alloc, &encoding, budgets, first, watch)
+    best_from(alloc, &encoding, budgets, schedule_found(season), watch)
 }
 
 /// The best answer of all tries, of which the first came to this.

@@ -1,5 +1,5 @@
 //! Descents of which a watch hears.
-ghost use Rattle.std.specs.Prelude.{◌≡◌, ◌≤◌, length, IfOk};
+ghost use Rattle.std.specs.Prelude.{◌≡◌, ◌≤◌, ◌↔◌, length, IfOk, IsTrue};
 ghost use Rattle.std.specs.List.{All};
 ghost use Rattle.league.specs.Accepted.{IsAccepted};
 ghost use Rattle.league.specs.Counts.{counts_of};
@@ -37,21 +37,24 @@ pub(crate) fn lowered_told<W: Listener>(
     Ok(season)
 }
 
-/// Tells the watch of a schedule that a search found, before any move is tried.
+/// Tells the watch of a schedule before any move is tried, where the league accepts it, and says whether it does.
 ///
 /// # Errors
 /// Only where memory runs out.
-pub(crate) fn tell_found<W: Listener>(
+pub(crate) fn tell_accepted<W: Listener>(
     alloc: Global,
     league: &League,
     found: &Schedule,
     watch: &W,
-) -> Result<(), AllocError>
-    requires accepted { IsAccepted league.now (counts_of found.now) }
+) -> Result<bool, AllocError>
     requires fit { All (IsGame league.now.n) found.now }
     requires few { length found.now ≤ 10000 }
+    ensures { IfOk result (λ accepted. IsTrue accepted ↔ IsAccepted league.now (counts_of found.now)) }
 {
     let assessment = assess(alloc, league, found)?;
+    if !assessment.feasible {
+        return Ok(false);
+    }
     watch.tell_season(league, found.games(), assessment.objective, 0);
-    Ok(())
+    Ok(true)
 }

@@ -2,18 +2,14 @@ use Rattle.rows.specs.Values.{assigned}
 use Rattle.decoding.proofs.GameLemmas.{accepted_few, accepted_fit}
 use Rattle.solve.proofs.attempt.accepted.Goals as goal
 
-pub tell_found-requires-clause-accepted : goal.tell_found-requires-clause-accepted
-tell_found-requires-clause-accepted g c =
-    rw c.league-league.ensures (c.in_ok-schedule.ensures.accepted c.requires.satisfied)
-
-pub tell_found-requires-clause-fit : goal.tell_found-requires-clause-fit
-tell_found-requires-clause-fit g c =
+pub tell_accepted-requires-clause-fit : goal.tell_accepted-requires-clause-fit
+tell_accepted-requires-clause-fit g c =
     rw c.league-league.ensures
     (accepted_fit c.args.encoding.now.n (assigned c.args.values.now) c.in_ok-schedule.schedule
     c.in_ok-schedule.ensures.games)
 
-pub tell_found-requires-clause-few : goal.tell_found-requires-clause-few
-tell_found-requires-clause-few g c =
+pub tell_accepted-requires-clause-few : goal.tell_accepted-requires-clause-few
+tell_accepted-requires-clause-few g c =
     accepted_few c.args.encoding.now.n (assigned c.args.values.now) c.in_ok-schedule.schedule
     c.in_ok-schedule.ensures.games c.in_ok-schedule.ensures.instance.teams.at_most
     (c.in_ok-schedule.ensures.accepted c.requires.satisfied).round_robin.pairs

@@ -1,11 +1,21 @@
-use Rattle.std.proofs.Common.{List, Option, subst}
+use Rattle.std.proofs.Common.{List, Option, refl, subst}
 use Rattle.std.specs.Prelude.{IfSome}
 use Rattle.circle_method.specs.Circle.{double_games}
 use Rattle.refutation.specs.Steps.{Step}
 use Rattle.solve.specs.Solutions.{RefutesLeague}
+use Rattle.solve.proofs.CountingLemmas.{never_told}
 use Rattle.solve.proofs.KeptLemmas.{answer-unstopped, as-set}
 use Rattle.solve.proofs.PlaneLemmas.{at_most-either, schedule-either, solution-either}
 use Rattle.solve.proofs.from_season.solve_from.Goals as goal
+
+pub count_out-requires : goal.count_out-requires
+count_out-requires g c = record { small = c.in_ok-terms.ensures.limit.within refl }
+
+pub first_try-requires-clause-small : goal.first_try-requires-clause-small
+first_try-requires-clause-small g c = c.in_ok-terms.ensures.limit.within refl
+
+pub found_or_refuted-requires : goal.found_or_refuted-requires
+found_or_refuted-requires g c = record { small = c.in_ok-terms.ensures.limit.within refl }
 
 pub returns-in-Some-clause-circle : goal.returns-in-Some-clause-circle
 returns-in-Some-clause-circle g c = λ accepted.
@@ -49,3 +59,20 @@ pub returns-clause-circle : goal.returns-clause-circle
 returns-clause-circle g c = λ accepted.
     schedule-either c.args.league.now c.in_ok-best.best c.in_ok-solved.solved
     (c.in_ok-best.ensures.schedule (c.in_ok-first.ensures.circle accepted)) c.in_ok-solved.ensures
+
+pub returns-in-Some-clause-unstopped : goal.returns-in-Some-clause-unstopped
+returns-in-Some-clause-unstopped g c = λ never.
+    subst (λ (found : Option (List Step)). IfSome found (RefutesLeague c.args.league.now)) c.in-Some.is
+    c.in_ok-log.ensures.refuted
+
+pub returns-clause-short : goal.returns-clause-short
+returns-clause-short g c = λ short.
+    absurd (never_told c.in_ok-log.field-0 _ c.in_default.not-Some c.in_ok-log.ensures.short short)
+
+pub returns-clause-crowded : goal.returns-clause-crowded
+returns-clause-crowded g c = λ crowded.
+    absurd (never_told c.in_ok-log.field-0 _ c.in_default.not-Some c.in_ok-log.ensures.crowded crowded)
+
+pub returns-clause-few : goal.returns-clause-few
+returns-clause-few g c = λ few.
+    absurd (never_told c.in_ok-log.field-0 _ c.in_default.not-Some c.in_ok-log.ensures.few few)

@@ -1,85 +1,25 @@
-use Rattle.std.proofs.Common.{◌≡◌, ℕ, Bool, List, length, ap, subst, sym, ◌∙◌}
-use Rattle.std.specs.List.{All}
+use Rattle.std.proofs.Common.{◌≡◌, List, ap, subst, sym, ◌∙◌}
+use Rattle.std.specs.Prelude.{IfOk}
+use Rattle.league.specs.Accepted.{IsAccepted}
 use Rattle.league.specs.Counts.{Counts, counts_of}
-use Rattle.league.specs.Instance.{IsGame}
-use Rattle.league.specs.Structure.{IsRoundRobin}
 use Rattle.league.specs.declared.game.Game.{Game}
-use Rattle.rule_core.specs.Table.{Table, table_counts}
-use Rattle.solve.specs.Solutions.{league_score}
-use Rattle.solve.proofs.KeptLemmas.{kept-moves}
-use Rattle.solve.proofs.LowerLemmas.{Descends-same, IsSchedule-of, cost-is, settled-start}
+use Rattle.solve.specs.declared.lower.Season.{Season}
+use Rattle.solve.proofs.LowerLemmas.{found-settled}
 use Rattle.solve.proofs.lower.lowered_watched.Goals as goal
-use Rattle.walk.proofs.WalkLemmas.{scores-are}
 
-pub descend_watched-requires : goal.descend_watched-requires
-descend_watched-requires g c = record {
-  round_robin = subst (λ (m : Counts). IsRoundRobin c.in_ok-tally.tally.table.n c.phased-phased.result m)
-      (sym (c.in_ok-tally.ensures.counts ∙ ap (λ (games : List Game). counts_of games) c.games.ensures))
-      (subst (λ (b : Bool). IsRoundRobin c.in_ok-tally.tally.table.n b (counts_of c.args.start.now))
-      (sym c.phased-phased.ensures)
-      (subst (λ (n : ℕ). IsRoundRobin n c.args.league.now.phased (counts_of c.args.start.now))
-      (sym c.in_ok-tally.ensures.n) c.requires.accepted.round_robin));
-}
-
-pub season_of-requires : goal.season_of-requires
-season_of-requires g c = record {
-  round_robin = subst (λ (t : Table). IsRoundRobin t.n c.phased-phased.result (table_counts t)) (sym c.cells.ensures)
-      (subst (λ (n : ℕ). IsRoundRobin n c.phased-phased.result (table_counts c.descend_watched.new.tally.table))
-      (sym c.descend_watched.ensures.teams) c.descend_watched.ensures.round_robin);
-}
-
-pub returns-clause-season : goal.returns-clause-season
-returns-clause-season g c =
-    let by = kept-moves c.args.moves (g.W.Watch.may_stop c.args.watch.now) c.in_ok-descent.descent.settled
-    (length c.in_ok-descent.descent.trail) c.in_ok-descent.ensures.few c.in_ok-descent.ensures.spent in
-    let end : Counts = table_counts c.descend_watched.new.tally.table in
-    let counts : counts_of c.in_ok-schedule.schedule ≡ end =
-    c.in_ok-schedule.ensures.counts ∙ ap (λ (t : Table). table_counts t) c.cells.ensures in
-    let teams : c.cells.result.now.n ≡ c.args.league.now.n =
-    ap (λ (t : Table). t.n) c.cells.ensures ∙ c.descend_watched.ensures.teams ∙ c.in_ok-tally.ensures.n in
-    record {
-      kept = by.kept;
-      is_kept = by.is_kept;
-      is_season =
-          IsSchedule-of c.args.league.now (counts_of c.args.start.now) end by.kept
-          (g.W.Watch.may_stop c.args.watch.now) c.in_ok-descent.descent c.in_ok-schedule.schedule c.objective.result
-          (Descends-same c.in_ok-tally.tally.table.n c.args.league.now.n c.phased-phased.result c.args.league.now.phased
-          _ (league_score c.args.league.now) (table_counts c.in_ok-tally.tally.table) (counts_of c.args.start.now) end
-          by.kept (g.W.Watch.may_stop c.args.watch.now) c.in_ok-descent.descent c.in_ok-tally.ensures.n
-          c.phased-phased.ensures
-          (scores-are _ c.args.league.now c.in_ok-tally.tally.weights c.in_ok-tally.ensures.rules)
-          (c.in_ok-tally.ensures.counts ∙ ap (λ (games : List Game). counts_of games) c.games.ensures)
-          (record {
-            round_robin = c.descend_watched.ensures.round_robin;
-            first = c.in_ok-descent.ensures.first;
-            fit = c.in_ok-descent.ensures.fit;
-            in_order = c.in_ok-descent.ensures.in_order;
-            trail = c.in_ok-descent.ensures.trail;
-            few = by.few;
-            settled = c.in_ok-descent.ensures.settled;
-            spent = by.spent;
-            costly = c.in_ok-descent.ensures.costly;
-            lowers = c.in_ok-descent.ensures.lowers;
-          }))
-          c.requires.accepted counts
-          (subst (λ (n : ℕ). All (IsGame n) c.in_ok-schedule.schedule) teams c.in_ok-schedule.ensures.fit)
-          c.in_ok-schedule.ensures.in_order
-          (c.objective.ensures
-          ∙ cost-is _ c.args.league.now c.in_ok-tally.tally.weights c.descend_watched.new.tally.weights end
-          c.in_ok-tally.ensures.rules c.descend_watched.ensures.weights);
-    }
+pub descended-requires-clause-accepted : goal.descended-requires-clause-accepted
+descended-requires-clause-accepted g c =
+    subst (λ (m : Counts). IsAccepted c.args.league.now m)
+    (sym (c.in_ok-tally.ensures.counts ∙ ap (λ (games : List Game). counts_of games) c.games.ensures))
+    c.requires.accepted
 
 pub returns-clause-first : goal.returns-clause-first
 returns-clause-first g c =
-    c.in_ok-descent.ensures.first
-    ∙ (c.in_ok-tally.ensures.counts ∙ ap (λ (games : List Game). counts_of games) c.games.ensures)
+    subst (λ (m : Counts). IfOk c.descended.result (λ (season : Season). counts_of season.descent.first ≡ m))
+    (c.in_ok-tally.ensures.counts ∙ ap (λ (games : List Game). counts_of games) c.games.ensures)
+    c.descended.ensures.first
 
 pub returns-clause-settles : goal.returns-clause-settles
-returns-clause-settles g c = λ some none_lower.
-    settled-start c.args.league.now (counts_of c.args.start.now) c.args.moves (g.W.Watch.may_stop c.args.watch.now)
-    (record {
-      schedule = c.in_ok-schedule.schedule;
-      objective = c.objective.result;
-      descent = c.in_ok-descent.descent;
-    })
-    (returns-clause-season g c) (returns-clause-first g c) some none_lower
+returns-clause-settles g c = λ some.
+    found-settled c.args.league.now (counts_of c.args.start.now) c.args.moves (g.W.Watch.may_stop c.args.watch.now)
+    c.descended.result c.descended.ensures.season (returns-clause-first g c) some
