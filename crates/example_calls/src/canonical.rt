@@ -15,18 +15,18 @@ mod walked;
 
 use circle_method::double;
 use league::League;
+use moves::{Board, Edit};
 use std::io;
 
 /// Shows something of a league, on its board or beside its tally.
-pub fn show(
-    rt: &(impl AllocGlobal + Print),
-    league: &League,
-    kind: &str,
-    asked: &str,
-) -> io::Result<()> {
-    if kind == "edit" || kind == "walked" {
-        return boards::show(rt, league, kind, asked);
-    }
+pub fn show(rt: &HostRuntime, league: &League, kind: &str, asked: &str) -> io::Result<()> {
     let season = double(rt.alloc(), league.n())?;
-    tallied::show(rt, league, &season, kind, asked)
+    let mut board = Board::new(rt.alloc(), league.n(), league.phased(), &season)?;
+    let mut edit = Edit::new(rt.alloc(), league.n())?;
+    match kind {
+        "edit" => boards::show_edit(rt, &board, &mut edit, asked),
+        "walked" => walked::show(rt, league, &mut board, &mut edit, asked),
+        "descend" => tallied::show_descent(rt, league, &season, asked),
+        _ => tallied::show_moves(rt, league, &season, &board, &mut edit, asked),
+    }
 }

@@ -1,7 +1,5 @@
 //! What the devices and numbers of `robin_io`, the reader of `robinx_tags` and the logs of `refutation` do.
 //!
-//! In a text `|` stands for LF, and `FRONT*N*PIECE*BACK` for a piece that stands N times between a front and a back.
-//!
 //! - `log SIZE TEXT` reads a log in pieces of so many bytes, and writes it back or says its fault. `steps SIZE TEXT`
 //!   says only how many steps it has. `built` writes logs that are built step by step.
 //! - `pieces TEXT` and `pieces-of FILE` show the pieces of a file, and then the line of its end or its first fault.
@@ -17,28 +15,33 @@ mod numbers;
 mod pieces;
 mod sinks;
 mod stores;
-pub mod telling;
 
+use robin_io::Failed;
 use std::io;
-use std::rt::Files;
-use telling::text_of;
+
+/// What is written and read.
+const TEXT: &[u8] = b"seven bytes, and a few more";
 
 /// Shows what is asked of a device. Of a title nothing is shown.
-pub fn follow(
-    rt: &(impl AllocGlobal + Files + Print),
-    device: &str,
-    asked: &str,
-) -> io::Result<()> {
+pub fn follow(rt: &HostRuntime, device: &str, asked: &str) -> io::Result<()> {
     match device {
         "log" => logs::show(rt, asked, true),
         "steps" => logs::show(rt, asked, false),
         "built" => logs::show_built(rt),
-        "pieces" => pieces::show(rt, &text_of(rt.alloc(), asked)?),
+        "pieces" => pieces::show(rt, asked.as_bytes()),
         "attribute" => pieces::show_attribute(rt, asked),
         "number" => numbers::show_read(rt, asked),
         "decimal" => numbers::show_written(rt, asked),
         "store" => stores::show(rt, asked),
         "sink" => sinks::show(rt, asked),
         _ => machine::follow(rt, device, asked),
+    }
+}
+
+/// What a call gave that tells no more than whether it failed.
+fn outcome(done: Result<(), Failed>) -> &'static str {
+    match done {
+        Ok(()) => "Ok",
+        Err(Failed) => "Failed",
     }
 }

@@ -9,43 +9,25 @@
 mod lines;
 mod seasons;
 
-ghost use Rattle.std.specs.Prelude.{◌≡◌};
-
-use anyhow::Result;
 use encoding::{Encoding, encode};
 use league::League;
-use std::rt::Files;
+use std::io;
 
 /// Shows something of the encoding of a league, or why there is none.
-pub fn show_league(
-    rt: &(impl AllocGlobal + Files + Print),
-    league: &League,
-    what: &str,
-) -> Result<()> {
+pub fn show(rt: &HostRuntime, league: &League, kind: &str, asked: &str) -> io::Result<()> {
     match encode(rt.alloc(), league) {
-        Ok(encoding) => show(rt, league, &encoding, what),
-        Err(fault) => Ok(println!(rt; "{fault}")?),
+        Ok(encoding) => show_of(rt, &encoding, kind, asked),
+        Err(fault) => println!(rt; "{fault}"),
     }
 }
 
 /// Shows something of an encoding: a row or a variable by its number, and whatever is named otherwise.
-fn show(
-    rt: &(impl AllocGlobal + Files + Print),
-    league: &League,
-    encoding: &Encoding,
-    what: &str,
-) -> Result<()>
-    requires { encoding.now ≡ league.now }
-{
-    if let Some(number) = what.strip_prefix("row ") {
-        return Ok(lines::show_row(rt, encoding, number.parse()?)?);
-    }
-    if let Some(number) = what.strip_prefix("variable ") {
-        return Ok(lines::show_variable(rt, encoding, number.parse()?)?);
-    }
-    match what {
-        "size" => Ok(lines::show_size(rt, encoding)?),
-        "conflicts" => Ok(lines::show_conflicts(rt, rt.alloc(), encoding)?),
-        _ => seasons::show(rt, league, encoding, what),
+fn show_of(rt: &HostRuntime, encoding: &Encoding, kind: &str, asked: &str) -> io::Result<()> {
+    match kind {
+        "size" => lines::show_size(rt, encoding),
+        "row" => lines::show_row(rt, encoding, asked.parse::<usize>().unwrap_or(0)),
+        "variable" => lines::show_variable(rt, encoding, asked.parse::<u32>().unwrap_or(0)),
+        "conflicts" => lines::show_conflicts(rt, encoding),
+        _ => seasons::show(rt, encoding, kind, asked),
     }
 }

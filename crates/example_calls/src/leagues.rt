@@ -1,23 +1,26 @@
 //! The leagues of files.
-ghost use Rattle.std.specs.Prelude.{◌≤◌, IfOk, vec_len};
-
-use anyhow::{Result, ensure};
+use crate::{canonical, encoded};
 use league::League;
-use robinx_read::{SOLUTION_LIMIT, read_instance};
-use std::fs;
-use std::rt::Files;
+use robinx_read::{INSTANCE_LIMIT, read_instance};
+use std::{fs, io};
 
-/// The league of a file.
-pub fn league_of(rt: &(impl AllocGlobal + Files), file: &str) -> Result<League> {
-    let bytes = bytes_of(rt, file)?;
-    Ok(read_instance(rt.alloc(), &bytes)?)
+/// Shows something of the league of a file: moves of its season, or its rows.
+pub fn show(rt: &HostRuntime, file: &str, asked: &str) -> io::Result<()> {
+    let bytes = fs::read(rt, file)?;
+    let few = bytes.len().min(INSTANCE_LIMIT);
+    match read_instance(rt.alloc(), &bytes[..few]) {
+        Ok(league) => show_of(rt, &league, asked),
+        Err(_) => println!(rt; "no league"),
+    }
 }
 
-/// The bytes of a small file.
-pub fn bytes_of(rt: &(impl AllocGlobal + Files), file: &str) -> Result<Vec<u8>>
-    ensures { IfOk result (λ bytes. vec_len bytes ≤ SOLUTION_LIMIT) }
-{
-    let bytes = fs::read(rt, file)?;
-    ensure!(bytes.len() <= SOLUTION_LIMIT, "the file is too long");
-    Ok(bytes)
+/// Shows something of a league.
+fn show_of(rt: &HostRuntime, league: &League, asked: &str) -> io::Result<()> {
+    let (kind, words) = asked.split_once(' ').unwrap_or((asked, ""));
+    match kind {
+        "edit" | "walked" | "weigh" | "moves" | "descend" => {
+            canonical::show(rt, league, kind, words)
+        }
+        _ => encoded::show(rt, league, kind, words),
+    }
 }

@@ -6,6 +6,9 @@
 //! (`canonical`), of leagues' rows (`encoded`), and of rows and searches (`searches`). `FILE: WHAT` asks for something of
 //! the league of a file of `data`, of moves or of its rows. Another line begins with what it asks for. Any other line is
 //! a title.
+//!
+//! Behind the first word `|` stands for LF, and `FRONT*N*PIECE*BACK` for a piece that stands N times between a front and
+//! a back.
 #![tactic(auto)]
 
 mod canonical;
@@ -13,54 +16,40 @@ mod devices;
 mod encoded;
 mod leagues;
 mod searches;
+mod telling;
 
-use anyhow::Result;
 use decoding::laws::faithful;
-use leagues::league_of;
 use moves::laws::{least_sets, undo};
 use std::io;
-use std::rt::Files;
+use telling::text_of;
 
 /// Follows the lines of standard input.
-fn main(rt: HostRuntime) -> Result<()> {
+fn main(rt: HostRuntime) -> io::Result<()> {
     faithful();
     least_sets();
     undo();
     for line in rt.lines(rt.alloc()) {
-        let line = line?;
-        follow(&rt, line.as_str())?;
+        follow(&rt, line?.as_str())?;
     }
     Ok(())
 }
 
 /// Writes a line, and shows what it asks for.
-fn follow(rt: &(impl AllocGlobal + Files + Print), line: &str) -> Result<()> {
+fn follow(rt: &HostRuntime, line: &str) -> io::Result<()> {
     println!(rt; "{line}")?;
-    match line.split_once(": ") {
-        Some((file, what)) if file.ends_with(".xml") => show_league(rt, file, what),
-        _ => Ok(call(rt, line)?),
-    }
+    let (name, words) = line.split_once(' ').unwrap_or((line, ""));
+    let asked = text_of(rt.alloc(), words)?;
+    call(rt, name, asked.as_str())
 }
 
-/// Shows something of the league of a file: moves of its season, or its rows.
-fn show_league(rt: &(impl AllocGlobal + Files + Print), file: &str, what: &str) -> Result<()> {
-    let league = league_of(rt, file)?;
-    let (kind, asked) = what.split_once(' ').unwrap_or((what, ""));
-    match kind {
-        "edit" | "walked" | "weigh" | "moves" | "descend" => {
-            Ok(canonical::show(rt, &league, kind, asked)?)
-        }
-        _ => encoded::show_league(rt, &league, what),
+/// Shows what is asked of a league, of rows and searches, or of a device.
+fn call(rt: &HostRuntime, name: &str, asked: &str) -> io::Result<()> {
+    if let Some(file) = name.strip_suffix(':') {
+        return leagues::show(rt, file, asked);
     }
-}
-
-/// Shows what a line asks of rows and searches, or of a device.
-fn call(rt: &(impl AllocGlobal + Files + Print), line: &str) -> io::Result<()> {
-    let (name, asked) = line.split_once(' ').unwrap_or((line, ""));
     match name {
         "rows" => searches::show_rows(rt),
-        "search" => searches::show_search(rt, asked),
-        "planes" => searches::show_planes(rt),
+        "search" | "planes" => searches::show(rt, name, asked),
         _ => devices::follow(rt, name, asked),
     }
 }

@@ -7,6 +7,8 @@ mod kept;
 mod worked;
 
 ghost use Rattle.std.specs.Prelude.{◌≡◌, length};
+ghost use Rattle.std.specs.List.{All};
+ghost use Rattle.propagate.specs.Trails.{KnowsVariables};
 
 use crate::devices::logs::write_back;
 use clause_search::{Found, search};
@@ -14,19 +16,26 @@ pub use kept::show_rows;
 use planes::{Start, refute};
 use refutation::Log;
 use robin_watch::Unwatched;
-use rows::{Assignment, Lit};
+use rows::{Assignment, Lit, RowStore};
 use std::io;
 use worked::{VARS, worked_clauses};
 
-/// Searches over so many clauses, within a limit if there is one, with the variables 1, 2 and 3 preferred, to be true.
-/// Tells what is found.
-pub fn show_search(rt: &(impl AllocGlobal + Print), asked: &str) -> io::Result<()> {
+/// Searches over so many clauses, or over all by cutting planes.
+pub fn show(rt: &HostRuntime, kind: &str, asked: &str) -> io::Result<()> {
     let (count, limit) = asked.split_once(' ').unwrap_or((asked, ""));
-    let rows = worked_clauses(rt.alloc(), count == "6")?;
+    let rows = worked_clauses(rt.alloc(), count != "5")?;
+    match kind {
+        "planes" => show_planes(rt, &rows),
+        _ => show_search(rt, &rows, limit.parse::<u64>().ok()),
+    }
+}
+
+/// Searches within a limit if there is one, with the variables 1, 2 and 3 preferred, to be true. Tells what is found.
+fn show_search(rt: &HostRuntime, rows: &RowStore, limit: Option<u64>) -> io::Result<()>
+    requires { All (KnowsVariables VARS) rows.now }
+{
     let prefer = [Lit::new(1, true), Lit::new(2, true), Lit::new(3, true)];
-    let limit = limit.parse::<u64>().ok();
-    let found = search(rt.alloc(), &rows, VARS, &prefer, limit)?;
-    match found {
+    match search(rt.alloc(), rows, VARS, &prefer, limit)? {
         Found::Sat(values) => tell_values(rt, &values),
         Found::Refuted(log) => tell_log(rt, "refuted", &log),
         Found::Spent(log) => tell_log(rt, "spent", &log),
@@ -34,23 +43,24 @@ pub fn show_search(rt: &(impl AllocGlobal + Print), asked: &str) -> io::Result<(
 }
 
 /// Searches by cutting planes, and tells what is found.
-pub fn show_planes(rt: &(impl AllocGlobal + Print)) -> io::Result<()> {
-    let rows = worked_clauses(rt.alloc(), true)?;
+fn show_planes(rt: &HostRuntime, rows: &RowStore) -> io::Result<()>
+    requires { All (KnowsVariables VARS) rows.now }
+{
     let start = Start {
         steps: Log::new(rt.alloc()),
         derived: Vec::new(rt.alloc()),
     };
-    match refute(rt.alloc(), &rows, VARS, start, 10, &Unwatched)? {
+    match refute(rt.alloc(), rows, VARS, start, 10, &Unwatched)? {
         Some(log) => tell_log(rt, "refuted by planes", &log),
         None => println!(rt; "no log"),
     }
 }
 
 /// Tells which variables are true.
-fn tell_values(rt: &impl Print, values: &Assignment) -> io::Result<()>
+fn tell_values(rt: &HostRuntime, values: &Assignment) -> io::Result<()>
     requires { length values.now ≡ VARS }
 {
-    println!(rt; "satisfied")?;
+    rt.println("satisfied")?;
     for before in 0..VARS {
         let var = before + 1;
         if values.value(var) {
@@ -61,7 +71,7 @@ fn tell_values(rt: &impl Print, values: &Assignment) -> io::Result<()>
 }
 
 /// Tells the log's text.
-fn tell_log(rt: &(impl AllocGlobal + Print), answer: &str, log: &Log) -> io::Result<()> {
-    println!(rt; "{answer}")?;
+fn tell_log(rt: &HostRuntime, answer: &str, log: &Log) -> io::Result<()> {
+    rt.println(answer)?;
     write_back(rt, log)
 }

@@ -6,7 +6,7 @@ ghost use Rattle.league.specs.Instance.{IsGame};
 ghost use Rattle.rule_core.specs.Table.{table_counts};
 ghost use Rattle.moves.specs.Round.{round_counts};
 
-use crate::canonical::boards::find_edit;
+use crate::canonical::boards::is_legal;
 use crate::canonical::counting::changed;
 use deviation::{AnyRule, Assessment, assess};
 use league::{League, Schedule};
@@ -40,7 +40,7 @@ impl Compared {
 
 /// Shows how many moves of a season are legal, and after how many of them a tally is exact.
 pub fn show_tried(
-    rt: &(impl AllocGlobal + Print),
+    rt: &HostRuntime,
     league: &League,
     season: &Schedule,
     board: &Board,
@@ -63,7 +63,7 @@ pub fn show_tried(
     };
     let mut steps = Neighbours::new(board.n());
     'steps: while let Some(step) = steps.next() {
-        if find_edit(board, &step, edit) {
+        if is_legal(board, step, edit) {
             all = all.and(try_edit(rt.alloc(), league, season, &before, tally, edit)?);
         }
     }
@@ -93,12 +93,11 @@ fn try_edit(
     tally.apply(edit, &mut steps);
     let (weighed, kept) = compare(alloc, league, season, edit, tally, &sums)?;
     tally.undo(edit, &mut steps);
-    let back = is_as_counted(tally, before);
     Ok(Compared {
         legal: 1,
         weighed: weighed as u64,
         kept: kept as u64,
-        back: back as u64,
+        back: is_as_counted(tally, before) as u64,
     })
 }
 

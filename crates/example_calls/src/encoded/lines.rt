@@ -1,58 +1,63 @@
 //! What an encoding is shown as.
 ghost use Rattle.std.specs.Prelude.{◌<◌, length};
 ghost use Rattle.league.specs.Counts.{slot_count};
+ghost use Rattle.encoding.specs.Known.{AreKnown};
 
 use encoding::Encoding;
 use league::{SlotId, TeamId};
 use rows::{Partial, RowStore, Term, slack};
-use std::alloc::{AllocError, Global};
-use std::io;
+use std::{fmt, io};
+
+/// The name of a variable: of a game, or of a team's venue or break in a slot.
+#[derive(Clone, Copy)]
+enum Name {
+    Game {
+        team: u16,
+        away: u16,
+        slot: u16,
+    },
+    Own {
+        kind: &'static str,
+        team: u16,
+        slot: u16,
+    },
+    None,
+}
+
+impl fmt::Display for Name {
+    fn fmt<W: fmt::Write>(&self, f: &mut fmt::Formatter<W>) -> fmt::Result {
+        match self {
+            Name::Game { team, away, slot } => write!(f, "x({team},{away},{slot})"),
+            Name::Own { kind, team, slot } => write!(f, "{kind}({team},{slot})"),
+            Name::None => Ok(()),
+        }
+    }
+}
 
 /// Shows how many variables and rows there are.
-pub fn show_size(rt: &impl Print, encoding: &Encoding) -> io::Result<()> {
-    let vars = encoding.vars();
-    let rows = encoding.rows().len();
+pub fn show_size(rt: &HostRuntime, encoding: &Encoding) -> io::Result<()> {
+    let (vars, rows) = (encoding.vars(), encoding.rows().len());
     println!(rt; "{vars} variables, {rows} rows")
 }
 
 /// Shows the row of a number, from 1 on.
-pub fn show_row(
-    rt: &(impl AllocGlobal + Print),
-    encoding: &Encoding,
-    number: usize,
-) -> io::Result<()> {
+pub fn show_row(rt: &HostRuntime, encoding: &Encoding, number: usize) -> io::Result<()> {
     let rows = encoding.rows();
     if number == 0 || number > rows.len() {
         return println!(rt; "there is no row {number}");
     }
     print!(rt; "row {number}: ")?;
-    show_sum(rt, encoding, rows.terms(number - 1))?;
-    let degree = rows.degree(number - 1);
-    println!(rt; " >= {degree}")
-}
-
-/// Shows the sum of a row.
-fn show_sum(
-    rt: &(impl AllocGlobal + Print),
-    encoding: &Encoding,
-    terms: &[Term],
-) -> io::Result<()> {
     let mut sign = "";
-    for term in terms {
+    for term in rows.terms(number - 1) {
         show_term(rt, encoding, sign, term)?;
         sign = " + ";
     }
-    Ok(())
+    println!(rt; " >= {}", rows.degree(number - 1))
 }
 
 /// Shows a sign, and a literal with its coefficient, if that isn't 1.
-fn show_term(
-    rt: &(impl AllocGlobal + Print),
-    encoding: &Encoding,
-    sign: &str,
-    term: &Term,
-) -> io::Result<()> {
-    let name = name_of(rt.alloc(), encoding, term.lit.var())?;
+fn show_term(rt: &HostRuntime, encoding: &Encoding, sign: &str, term: &Term) -> io::Result<()> {
+    let name = name_of(encoding, term.lit.var());
     let not = if term.lit.positive() { "" } else { "not " };
     match term.coef {
         1 => print!(rt; "{sign}{not}{name}"),
@@ -61,28 +66,24 @@ fn show_term(
 }
 
 /// Shows a variable and its name.
-pub fn show_variable(
-    rt: &(impl AllocGlobal + Print),
-    encoding: &Encoding,
-    var: u32,
-) -> io::Result<()> {
-    let name = name_of(rt.alloc(), encoding, var)?;
+pub fn show_variable(rt: &HostRuntime, encoding: &Encoding, var: u32) -> io::Result<()> {
+    let name = name_of(encoding, var);
     println!(rt; "variable {var}: {name}")
 }
 
 /// The name of a variable.
-fn name_of(alloc: Global, encoding: &Encoding, var: u32) -> Result<String, AllocError> {
+fn name_of(encoding: &Encoding, var: u32) -> Name {
     for team in 0..encoding.n() {
         for slot in 0..encoding.slots() {
             if let Some(kind) = kind_at(encoding, var, TeamId(team), SlotId(slot)) {
-                return format!(in alloc; "{kind}({team},{slot})");
+                return Name::Own { kind, team, slot };
             }
             if let Some(away) = visitor_at(encoding, var, TeamId(team), SlotId(slot)) {
-                return format!(in alloc; "x({team},{away},{slot})");
+                return Name::Game { team, away, slot };
             }
         }
     }
-    format!(in alloc; "{var}")
+    Name::None
 }
 
 /// The kind of a variable, if it is one of a team's venue and breaks at a slot.
@@ -115,37 +116,21 @@ fn visitor_at(encoding: &Encoding, var: u32, home: TeamId, slot: SlotId) -> Opti
 }
 
 /// Shows which rows are in conflict while no variable has a value.
-pub fn show_conflicts(rt: &impl Print, alloc: Global, encoding: &Encoding) -> io::Result<()> {
-    let rows = encoding.rows();
+pub fn show_conflicts(rt: &HostRuntime, encoding: &Encoding) -> io::Result<()> {
+    let free = Partial::new(rt.alloc(), encoding.vars())?;
+    show_negative(rt, encoding.rows(), &free)
+}
+
+/// Shows which rows have a negative slack.
+fn show_negative(rt: &HostRuntime, rows: &RowStore, values: &Partial) -> io::Result<()>
+    requires { AreKnown (length values.now) rows.now }
+{
     for place in 0..rows.len() {
-        if let Some(slack) = slack_of(alloc, encoding.vars(), rows, place)? {
-            show_conflict(rt, place + 1, slack)?;
+        let slack = slack(rows.terms(place), rows.degree(place), values);
+        if slack < 0 {
+            let number = place + 1;
+            println!(rt; "row {number} is in conflict alone, by slack {slack}")?;
         }
     }
     Ok(())
-}
-
-/// The slack of a row while none of so many variables has a value, where it speaks of no others.
-fn slack_of(
-    alloc: Global,
-    vars: u32,
-    rows: &RowStore,
-    place: usize,
-) -> Result<Option<i128>, AllocError>
-    requires { place < length rows.now }
-{
-    let free = Partial::new(alloc, vars)?;
-    let terms = rows.terms(place);
-    if terms.iter().all(|term| term.lit.var() <= vars) {
-        return Ok(Some(slack(terms, rows.degree(place), &free)));
-    }
-    Ok(None)
-}
-
-/// Shows that the row of a number is in conflict, where its slack is negative.
-fn show_conflict(rt: &impl Print, number: usize, slack: i128) -> io::Result<()> {
-    if slack >= 0 {
-        return Ok(());
-    }
-    println!(rt; "row {number} is in conflict alone, by slack {slack}")
 }

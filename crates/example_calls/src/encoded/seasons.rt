@@ -1,71 +1,58 @@
 //! What a season of four teams makes true, and which games are decoded from that.
 ghost use Rattle.std.specs.Prelude.{◌≡◌, length, IfOk};
-ghost use Rattle.std.specs.List.{All};
-ghost use Rattle.league.specs.Instance.{IsGame};
 ghost use Rattle.encoding.specs.Variables.{var_count};
 
 use crate::canonical::boards::show_games;
 use crate::encoded::lines::show_variable;
-use crate::leagues::bytes_of;
-use anyhow::Result;
 use decoding::{decode, shadow};
 use encoding::Encoding;
-use league::{League, Schedule};
-use robinx_read::read_solution;
+use robinx_read::{SOLUTION_LIMIT, read_solution};
 use rows::Assignment;
-use std::io;
-use std::rt::Files;
+use std::{fs, io};
 
 /// Shows which breaks the shadow of the season of a file has, or which games are decoded from it or from nothing true.
-pub fn show(
-    rt: &(impl AllocGlobal + Files + Print),
-    league: &League,
-    encoding: &Encoding,
-    what: &str,
-) -> Result<()>
-    requires { encoding.now ≡ league.now }
-{
-    if let Some(file) = what.strip_prefix("breaks of ") {
-        let values = values_of(rt, league, encoding, file)?;
-        return Ok(show_breaks(rt, encoding, &values)?);
+pub fn show(rt: &HostRuntime, encoding: &Encoding, kind: &str, asked: &str) -> io::Result<()> {
+    match asked.strip_prefix("of ") {
+        Some("nothing") | None => {
+            let values = Assignment::new(rt.alloc(), encoding.vars())?;
+            show_values(rt, encoding, kind, &values)
+        }
+        Some(file) => {
+            let values = shadow_of(rt, encoding, file)?;
+            show_values(rt, encoding, kind, &values)
+        }
     }
-    let file = what.strip_prefix("games of ").unwrap_or("nothing");
-    let values = values_of(rt, league, encoding, file)?;
-    let season = decode(rt.alloc(), encoding, &values)?;
-    Ok(show_games(rt, "", season.games())?)
 }
 
-/// The shadow of the season of a file, or nothing true.
-fn values_of(
-    rt: &(impl AllocGlobal + Files),
-    league: &League,
+/// Shows which breaks have values that are true, or which games are decoded from the values.
+fn show_values(
+    rt: &HostRuntime,
     encoding: &Encoding,
-    file: &str,
-) -> Result<Assignment>
-    requires { encoding.now ≡ league.now }
+    kind: &str,
+    values: &Assignment,
+) -> io::Result<()>
+    requires { length values.now ≡ var_count encoding.now }
+{
+    match kind {
+        "breaks" => show_breaks(rt, encoding, values),
+        _ => show_decoded(rt, encoding, values),
+    }
+}
+
+/// The shadow of the season of a file.
+fn shadow_of(rt: &HostRuntime, encoding: &Encoding, file: &str) -> io::Result<Assignment>
     ensures { IfOk result (λ values. length values ≡ var_count encoding.now) }
 {
-    if file == "nothing" {
-        return Ok(Assignment::new(rt.alloc(), encoding.vars())?);
+    let bytes = fs::read(rt, file)?;
+    let few = bytes.len().min(SOLUTION_LIMIT);
+    match read_solution(rt.alloc(), &bytes[..few], encoding.league()) {
+        Ok(season) => Ok(shadow(rt.alloc(), encoding, &season)?),
+        Err(_) => Err(io::ErrorKind::InvalidData.into()),
     }
-    let season = season_of(rt, league, file)?;
-    Ok(shadow(rt.alloc(), encoding, &season)?)
-}
-
-/// The season of a file.
-fn season_of(rt: &(impl AllocGlobal + Files), league: &League, file: &str) -> Result<Schedule>
-    ensures { IfOk result (λ season. All (IsGame league.now.n) season) }
-{
-    let bytes = bytes_of(rt, file)?;
-    Ok(read_solution(rt.alloc(), &bytes, league)?)
 }
 
 /// Shows the variables of breaks that are true.
-fn show_breaks(
-    rt: &(impl AllocGlobal + Print),
-    encoding: &Encoding,
-    values: &Assignment,
-) -> io::Result<()>
+fn show_breaks(rt: &HostRuntime, encoding: &Encoding, values: &Assignment) -> io::Result<()>
     requires { length values.now ≡ var_count encoding.now }
 {
     for var in 97..encoding.vars() + 1 {
@@ -74,4 +61,12 @@ fn show_breaks(
         }
     }
     Ok(())
+}
+
+/// Shows the games that are decoded from values.
+fn show_decoded(rt: &HostRuntime, encoding: &Encoding, values: &Assignment) -> io::Result<()>
+    requires { length values.now ≡ var_count encoding.now }
+{
+    let season = decode(rt.alloc(), encoding, values)?;
+    show_games(rt, "", season.games())
 }

@@ -5,7 +5,7 @@ use Rattle.example_calls.proofs.canonical.tried.show_tried.Given as goal
 
 -- the tally has the games of the board
 abbrev pub invariant-steps : goal.invariant-steps
-invariant-steps g l = record {
+invariant-steps l = record {
   edit : l.edit.n ≡ l.board.n;
   tally : l.tally.table.n ≡ l.league.n;
   same : (i j s : ℕ) → table_counts l.tally.table i j s ≡ round_counts l.board i j s;
@@ -13,4 +13,4 @@ invariant-steps g l = record {
 
 -- each iteration takes a move off the list
 abbrev pub decreases-steps : goal.decreases-steps
-decreases-steps g l = length l.steps
+decreases-steps l = length l.steps
