@@ -24,24 +24,13 @@ use std::alloc::{AllocError, Global};
 use tally::Tally;
 
 /// A double round robin on a board, all moves with the place of the next one to try, and the moves made so far.
+#[derive(Drop)]
 pub(crate) struct Walk {
     moves: Vec<Swap>,
     next: usize,
     board: Board,
     edit: Edit,
     trail: MoveList,
-}
-
-impl Drop for Walk {
-    fn drop(self) {
-        let Walk {
-            moves: _,
-            next: _,
-            board: _,
-            edit: _,
-            trail: _,
-        } = self;
-    }
 }
 
 impl Walk {

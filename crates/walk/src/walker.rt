@@ -79,24 +79,13 @@ impl Patience {
 
 /// Where a walk stands, room for a copy of its games, the best games so far, how many moves it may try in all, and how
 /// many of them may still be tried.
+#[derive(Drop)]
 pub(crate) struct Walker {
     pub(crate) standing: Standing,
     pub(crate) games: Vec<Game>,
     pub(crate) best: Kept,
     pub(crate) budget: u64,
     pub(crate) left: u64,
-}
-
-impl Drop for Walker {
-    fn drop(self) {
-        let Walker {
-            standing: _,
-            games: _,
-            best: _,
-            budget: _,
-            left: _,
-        } = self;
-    }
 }
 
 impl Walker {
