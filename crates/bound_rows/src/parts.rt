@@ -57,11 +57,7 @@ fn made_of(alloc: Global, n: u16, constraint: &Constraint) -> Result<Vec<Class>,
 fn whole(alloc: Global, constraint: &Constraint) -> Result<Vec<Class>, AllocError>
     ensures { IfOk result (λ made. made.items ≡ constraint.now.class ∷ []) }
 {
-    let Constraint {
-        hard: _hard,
-        penalty: _penalty,
-        class,
-    } = constraint.copy()?;
+    let class = constraint.class.copy()?;
     one(alloc, class)
 }
 

@@ -174,7 +174,10 @@ impl Class {
     }
 
     /// An equal class.
-    fn copy(&self) -> Result<Class, AllocError>
+    ///
+    /// # Errors
+    /// Only where memory runs out.
+    pub fn copy(&self) -> Result<Class, AllocError>
         ensures { IfOk result (λ copy. copy ≡ self.now) }
     {
         match self {

@@ -185,8 +185,10 @@ fn in_window(
     team: u16,
     slots: SlotSet,
 ) -> Result<Constraint, AllocError> {
-    let part = of_teams(alloc, constraint, &[team])?;
-    let class = match part.class {
+    let teams = team_set(alloc, &[team])?;
+    let mut class = constraint.class.copy()?;
+    set_teams(&mut class, teams);
+    let class = match class {
         Class::Ca3 {
             teams1,
             teams2,
