@@ -28,10 +28,9 @@ pub(crate) fn add_breaks(
         draft.summands.add(softened.penalty, row)?;
     }
     for stretch in stretches {
-        for home in [true, false] {
-            let row = add_clique(alloc, &mut draft.writer, frame, *stretch, home, teams)?;
-            draft.summands.add(softened.penalty, row)?;
-        }
+        let home = add_clique(alloc, &mut draft.writer, frame, *stretch, true, teams)?;
+        let away = add_clique(alloc, &mut draft.writer, frame, *stretch, false, teams)?;
+        draft.summands.add_all(softened.penalty, &[home, away])?;
     }
     Ok(())
 }

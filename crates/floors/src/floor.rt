@@ -1,5 +1,5 @@
 //! The floor of a league.
-ghost use Rattle.std.specs.Prelude.{◌≡◌, ◌+◌, ◌≤◌, IfOk, IfSome, Ok};
+ghost use Rattle.std.specs.Prelude.{◌≡◌, ◌+◌, ◌-◌, ◌≤◌, IfOk, IfSome, Ok};
 ghost use Rattle.league.specs.Instance.{Instance};
 ghost use Rattle.refutation.specs.Verdict.{verdict_of};
 ghost use Rattle.bound_rows.specs.BoundRows.{bound_rows, bound_vars};
@@ -72,8 +72,25 @@ fn proved_floor(
     ensures { IfOk result (λ found. IfSome found (IsFloor league.now)) }
 {
     let system = bound_system(alloc, league, bound - 1, terms)?;
+    floor_over(alloc, league, &system, bound)
+}
+
+/// This floor over its bound rows, if the log that laws give is accepted and its text can be written.
+///
+/// # Errors
+/// Only where memory runs out.
+fn floor_over(
+    alloc: Global,
+    league: &League,
+    system: &BoundSystem,
+    bound: u64,
+) -> Result<Option<Floor>, AllocError>
+    requires some { 1 ≤ bound }
+    requires system { system.now ≡ record { league = league.now; bound = bound - 1 } }
+    ensures { IfOk result (λ found. IfSome found (IsFloor league.now)) }
+{
     let log = log_of(alloc, league, system.rows())?;
-    let verdict = verdict_on(alloc, &system, &log)?;
+    let verdict = verdict_on(alloc, system, &log)?;
     if verdict == Verdict::Accepted && log.names_rows() && has_short_lines(&log) {
         Ok(Some(Floor { bound, log }))
     } else {

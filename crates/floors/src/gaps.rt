@@ -71,9 +71,7 @@ fn add_pair(
     for reach in 2..frame.n {
         let times = u64::from(reach) - 1;
         let mut summands = Summands::new(alloc);
-        summands.add(times, row)?;
-        summands.add(times, early)?;
-        summands.add(times, late)?;
+        summands.add_all(times, &[row, early, late])?;
         if reach < frame.n - 1 {
             let far = add_far(alloc, writer, frame, (first, second), reach)?;
             summands.add(times, far)?;
@@ -96,9 +94,12 @@ fn add_late(
     second: u16,
 ) -> Result<u64, AllocError> {
     let mut summands = Summands::new(alloc);
-    summands.add(1, frame.meeting(first, second) + 1)?;
-    summands.add(1, frame.meeting(second, first) + 1)?;
-    summands.add(1, frame.half(first, second))?;
+    let rows = [
+        frame.meeting(first, second) + 1,
+        frame.meeting(second, first) + 1,
+        frame.half(first, second),
+    ];
+    summands.add_all(1, &rows)?;
     summands.sum(writer, 1)
 }
 
@@ -118,6 +119,30 @@ fn add_far(
 {
     let (first, second) = pair;
     let other = third(first, second);
+    let clause = far_clause(alloc, frame, pair, other, reach)?;
+    let once = frame.meeting(first, other);
+    let row = writer.clause(&clause, &[once])?;
+    let mut summands = Summands::new(alloc);
+    summands.add_all(1, &[row, once + 1])?;
+    summands.sum(writer, 1)
+}
+
+/// The literals of which one is true: those of the first team's home games with another, and of all games of the two
+/// further than `reach` slots from the middle.
+fn far_clause(
+    alloc: Global,
+    frame: Frame,
+    pair: (u16, u16),
+    other: u16,
+    reach: u16,
+) -> Result<Vec<Lit>, AllocError>
+    requires order { pair.0 < pair.1 }
+    requires second { pair.1 < frame.n }
+    requires other { other < frame.n }
+    requires differ { other ≢ pair.0 }
+    requires reach { reach < frame.n }
+{
+    let (first, second) = pair;
     let half = frame.n - 1;
     let mut clause = Vec::new(alloc);
     for slot in 0..frame.slots {
@@ -129,12 +154,7 @@ fn add_far(
             clause.push(game(frame, second, first, slot))?;
         }
     }
-    let once = frame.meeting(first, other);
-    let row = writer.clause(&clause, &[once])?;
-    let mut summands = Summands::new(alloc);
-    summands.add(1, row)?;
-    summands.add(1, once + 1)?;
-    summands.sum(writer, 1)
+    Ok(clause)
 }
 
 /// A team beside two.

@@ -24,32 +24,46 @@ use std::alloc::{AllocError, Global};
 /// # Errors
 /// Only where memory runs out.
 pub(crate) fn log_of(alloc: Global, league: &League, rows: &RowStore) -> Result<Log, AllocError> {
-    let season = Season::new(alloc, league.n())?;
     let mut draft = Draft {
         writer: Writer::new(alloc, rows.len() as u64),
         summands: Summands::new(alloc),
     };
-    let first = rows_before_units(rows, base_vars(league)).saturating_add(1);
-    let objective = add_laws(
-        alloc,
-        &mut draft,
-        league,
-        &season,
-        league.constraints(),
-        first,
-    )?;
-    draft.summands.add(1, objective)?;
+    add_steps(alloc, &mut draft, league, rows)?;
     let Draft {
-        mut writer,
-        summands,
+        writer,
+        summands: _summands,
     } = draft;
-    let sum = summands.sum(&mut writer, 1)?;
-    writer.clause(&[], &[sum])?;
     Ok(writer.finish())
+}
+
+/// Adds the sum of the rows of each law and of the objective row, and the empty clause.
+fn add_steps(
+    alloc: Global,
+    draft: &mut Draft,
+    league: &League,
+    rows: &RowStore,
+) -> Result<(), AllocError> {
+    let first = rows_before_units(rows, base_vars(league)).saturating_add(1);
+    let objective = add_laws(alloc, draft, league, first)?;
+    draft.summands.add(1, objective)?;
+    let sum = draft.summands.sum(&mut draft.writer, 1)?;
+    draft.writer.clause(&[], &[sum])?;
+    Ok(())
 }
 
 /// Takes the rows of each law, and gives the number of the objective row. `first` is that of the first row with units.
 fn add_laws(
+    alloc: Global,
+    draft: &mut Draft,
+    league: &League,
+    first: u64,
+) -> Result<u64, AllocError> {
+    let season = Season::new(alloc, league.n())?;
+    add_laws_of(alloc, draft, league, &season, league.constraints(), first)
+}
+
+/// Takes the rows of the law of each of these constraints, and gives the number of the row behind those of the last.
+fn add_laws_of(
     alloc: Global,
     draft: &mut Draft,
     league: &League,

@@ -32,6 +32,17 @@ impl Summands {
         Ok(())
     }
 
+    /// Takes some rows, each so many times, if any.
+    ///
+    /// # Errors
+    /// Only where memory runs out.
+    pub(crate) fn add_all(&mut self, times: u64, rows: &[u64]) -> Result<(), AllocError> {
+        for row in rows {
+            self.add(times, *row)?;
+        }
+        Ok(())
+    }
+
     /// Adds the sum of the rows to a log, divided, and gives the number of its row.
     ///
     /// # Errors
