@@ -1,9 +1,8 @@
 -- Lists that are gone through from the front.
-use Rattle.std.proofs.Common.{◌≡◌, ◌≢◌, ℕ, suc, zero, ◌+◌, ◌-◌, ◌<◌, ◌≤◌, Bool, true, false, not, ◌&&◌, cond, List, [], ◌∷◌, ◌++◌, length, drop, get_or, refl, arith, ap, sym, ◌∙◌, add-one, append_assoc, append-nil, zero-add, take, length-drop}
+use Rattle.std.proofs.Common.{◌≡◌, ◌≢◌, ℕ, suc, zero, ◌+◌, ◌-◌, ◌<◌, ◌≤◌, Bool, true, false, not, ◌&&◌, cond, List, [], ◌∷◌, ◌++◌, length, drop, get_or, refl, arith, ap, sym, ◌∙◌, add-one, append_assoc, append-nil, take, length-drop}
 use Rattle.std.proofs.Math.Seq.{drop-cons, take-length}
 use Rattle.std.proofs.lemmas.List.{at_drop_all}
-use Rattle.std.specs.List.{position_or_len, range_with_len}
-use Rattle.league.proofs.RangeLemmas.{range_with_len-more}
+use Rattle.std.specs.List.{position_or_len}
 use Rattle.league.specs.declared.game.Game.{Game}
 use Rattle.reasons.specs.declared.reason.Reason.{Reason}
 use Rattle.season_misses.specs.Rows.{Row, are_same_games, goes_on, is_same_game, more_windows, rows_from}
@@ -13,11 +12,6 @@ use Rattle.season_misses.proofs.RowLemmas.{rows_from-next, rows_from-none, rows_
 pub cut_at : {X : Type 0} (xs : List X) (k : ℕ) (x : X) → k < length xs → get_or xs k x ≡ x → drop k xs ≡ x ∷ drop (k + 1) xs
 cut_at {X} xs k x within is =
     drop-cons xs k x within ∙ ap (λ (y : X). y ∷ drop (suc k) xs) is ∙ ap (λ (j : ℕ). x ∷ drop j xs) (sym (add-one k))
-
--- one more number
-pub numbers_more : (k : ℕ) (before after : List ℕ) → before ≡ range_with_len 0 k → after ≡ before ++ k ∷ [] → after ≡ range_with_len 0 (k + 1)
-numbers_more k before after so_far more =
-    more ∙ ap (λ (l : List ℕ). l ++ k ∷ []) so_far ∙ ap (λ (j : ℕ). range_with_len 0 k ++ j ∷ []) (sym (zero-add k)) ∙ sym (range_with_len-more 0 k)
 
 -- the rest of a list is whole
 pub rest_whole : {X : Type 0} (xs : List X) (k : ℕ) → take (length xs - k) (drop k xs) ≡ drop k xs
