@@ -2,5 +2,5 @@
 pub mod Parted
 pub mod Texts
 pub mod Explained
-
 -- Kept inside (laws, and how fields are seen):
+pub mod Replied

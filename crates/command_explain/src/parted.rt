@@ -46,18 +46,21 @@ fn unknown_refused(alloc: Global, league: &League, number: u32) -> Result<Refusa
 
 /// What a person is told of a number that isn't a hard constraint's.
 fn advice_on_number(alloc: Global, league: &League, number: u32) -> Result<Advice, AllocError> {
-    let count = league.constraints().len();
     let mut advice = Advice::new(alloc);
+    say_unknown(&mut advice, league.constraints().len(), number)?;
+    Ok(advice)
+}
+
+/// Tells that the constraint with a number is soft, or isn't among so many.
+fn say_unknown(advice: &mut Advice, count: usize, number: u32) -> Result<(), AllocError> {
     advice.say("robin: constraint ")?;
     advice.count(u64::from(number))?;
     if number as usize <= count {
-        advice.say(" is soft, and a part has hard ones alone\n")?;
-    } else {
-        advice.say(" isn't there: the league has ")?;
-        advice.count(count as u64)?;
-        advice.say(" constraints, hard and soft\n")?;
+        return advice.say(" is soft, and a part has hard ones alone\n");
     }
-    Ok(advice)
+    advice.say(" isn't there: the league has ")?;
+    advice.count(count as u64)?;
+    advice.say(" constraints, hard and soft\n")
 }
 
 /// The league of some hard constraints of a league, or which number isn't one's.

@@ -1,9 +1,10 @@
 //! The stages of `explain`.
 ghost use Rattle.std.specs.Prelude.{◌≡◌, ◌≤◌, ◌+◌, ℕ, List};
 ghost use Rattle.robin_io.specs.Outside.{store_between};
-ghost use Rattle.answers.specs.SeenReply.{Answers, answer_of};
+ghost use Rattle.answers.specs.SeenReply.{Answers};
 ghost use Rattle.command_check.specs.Check.{encodes};
 ghost use Rattle.command_explain.specs.Explained.{IsFound, explained};
+ghost use Rattle.command_explain.specs.Replied.{IsReplied};
 
 use crate::hints::on_members;
 use crate::replies::found_reply;
@@ -21,10 +22,11 @@ fn told(
     alloc: Global,
     instance: &str,
     explained: &Explained,
-    reply: Reply,
+    reply: Result<Reply, AllocError>,
 ) -> Result<Reply, NoValue>
-    ensures { Answers (λ answer. answer ≡ answer_of reply) result }
+    ensures { Answers (IsReplied reply) result }
 {
+    let reply = reply?;
     match explained {
         Explained::Conflict { members, .. } => {
             let advice = on_members(alloc, instance, members);
@@ -46,7 +48,7 @@ fn found_of<W: Listener>(
 {
     match explain(alloc, league, conflicts, watch) {
         Ok(explained) => {
-            let reply = found_reply(alloc, league, conflicts, &explained, watch)?;
+            let reply = found_reply(alloc, league, conflicts, &explained, watch);
             told(alloc, instance, &explained, reply)
         }
         Err(EncodeFault::TooLarge { terms }) => Err(NoValue::Refused(rows_refused(alloc, terms)?)),
