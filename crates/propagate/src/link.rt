@@ -5,7 +5,7 @@ ghost use Rattle.rows.specs.Codes.{code_of};
 use rows::Lit;
 
 /// A row in which a literal stands.
-#[derive(Clone, Copy, Debug)]
+#[derive(Clone, Copy)]
 pub(crate) struct Link {
     /// The row's place, from 0.
     pub(crate) row: u32,

@@ -61,10 +61,10 @@ impl<'a> Path<'a> {
         ensures entries { IfOk result (λ path. path.entries ≡ []) }
     {
         Ok(Path {
-            counters: Counters::new(alloc, given, vars)?,
-            added: Clauses::new(alloc),
             entries: Vec::with_capacity(alloc, vars as usize)?,
             places: vec![in alloc; 0; vars as usize]?,
+            added: Clauses::new(alloc),
+            counters: Counters::new(alloc, given, vars)?,
         })
     }
 

@@ -18,7 +18,7 @@ use rows::Lit;
 
 /// How far a path was looked at: each of the first `rows` rows is quiet, or one of the entries from `entries` on made a
 /// literal of it false.
-#[derive(Clone, Copy, Debug)]
+#[derive(Clone, Copy)]
 pub(crate) struct Looked {
     pub(crate) entries: usize,
     pub(crate) rows: usize,

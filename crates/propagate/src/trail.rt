@@ -57,8 +57,8 @@ impl<'a> Trail<'a> {
         requires { All (KnowsVariables vars) rows.now }
         ensures { IfOk result (λ trail. trail ≡ record { vars = vars; rows = rows.now; entries = [] }) }
     {
-        let path = Path::new(alloc, rows, vars)?;
         let watches = Watches::new(alloc, vars, rows.len())?;
+        let path = Path::new(alloc, rows, vars)?;
         let looked = Looked {
             entries: 0,
             rows: 0,

@@ -12,7 +12,7 @@ use rows::Lit;
 use std::alloc::{AllocError, Global};
 
 /// A watched literal of a clause. The clause's other one stands beside it: an even place and the next.
-#[derive(Clone, Copy, Debug)]
+#[derive(Clone, Copy)]
 pub(crate) struct Node {
     pub(crate) lit: Lit,
     /// The clause's place among the rows, from 0.

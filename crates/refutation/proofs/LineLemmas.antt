@@ -244,6 +244,11 @@ last-only left read first = record {
   value_is = first.says.3;
 }
 
+pub last-none : (left : List ℕ) (read : Item ℕ) (behind : Option (Bor (List ℕ))) → is_some behind ≡ false
+    → StandsFirst is_count is_small_number number left (Some read) behind → IsLast (groups_of (tokens_of left)) read
+last-none left read None none first = last-only left read first
+last-none left read (Some behind) none first = absurd (false≢true (sym none))
+
 -- pairs by their number
 pub are_pairs-length : {X : Type 0} (xs : List X) → are_pairs xs ≡ nat_eq (length xs % 2) 0
 are_pairs-length [] = refl

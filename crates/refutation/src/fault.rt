@@ -43,7 +43,7 @@ impl From<AllocError> for LogFault {
 }
 
 /// Why a line can't be read. Its number is known to the caller.
-#[derive(Debug, Drop)]
+#[derive(Clone, Copy)]
 pub(crate) enum Stop {
     /// The line has this fault.
     Form(LogKind),

@@ -84,6 +84,22 @@ hang-requires-clause-slot c =
     c.args.looked c.args.falsified (c.nodes.at - 1) head.0 c.nodes.at c.nodes.left c.nodes.stopped
     c.next_watch-next.result.lit c.requires.sound head.1 c.next_watch-next.ensures.grown c.next_watch-next.ensures.next
 
+pub overflow_sub-left : goal.overflow_sub-left
+overflow_sub-left c =
+    let head =
+    walking-head c.args.path.now c.nodes.path c.nodes.watches c.args.watches.now.hung c.args.looked
+    c.args.falsified c.nodes.invariant.0 c.nodes.at c.nodes.left c.nodes.stopped c.nodes.invariant.1 (omega arith)
+    in
+    omega (arith, head.1.few)
+
+pub nodes-smaller : goal.nodes-smaller
+nodes-smaller c =
+    let head =
+    walking-head c.args.path.now c.nodes.path c.nodes.watches c.args.watches.now.hung c.args.looked
+    c.args.falsified c.nodes.invariant.0 c.nodes.at c.nodes.left c.nodes.stopped c.nodes.invariant.1 (omega arith)
+    in
+    omega (arith, head.1.few)
+
 pub nodes-preserved : goal.nodes-preserved
 nodes-preserved c =
     let head =

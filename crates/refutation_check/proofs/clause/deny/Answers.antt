@@ -1,10 +1,11 @@
-use Rattle.std.proofs.Common.{◌≡◌, ◌+◌, List, [], ◌∷◌, ◌++◌, map, take, ap, sym, ◌∙◌}
+use Rattle.std.proofs.Common.{◌≡◌, ◌+◌, ◌≤◌, List, [], ◌∷◌, ◌++◌, length, map, take, ap, arith, sym, ◌∙◌}
+use Rattle.std.proofs.lemmas.List.{take_all}
 use Rattle.rows.specs.Literals.{Literal}
 use Rattle.rows.specs.Cardinality.{unit}
 use Rattle.rows.specs.Forcing.{set_true}
 use Rattle.rows.specs.Values.{valued}
 use Rattle.rows.specs.declared.lit.Term.{Term}
-use Rattle.refutation.specs.Following.{denied}
+use Rattle.refutation.specs.Following.{denied, distinct, has_opposites}
 use Rattle.refutation_check.proofs.ClauseLemmas.{came_next, denied_next, fresh_next, opposed_next}
 use Rattle.refutation_check.proofs.clause.deny.Goals as goal
 use Rattle.refutation_check.proofs.clause.deny.Goals.{in-False, in-Free+in_ok-push-in-Free}
@@ -52,3 +53,19 @@ loop-lit-preserved c =
             listed = c.in_ok-make_true.ensures.listed;
           }
     ]
+
+pub returns-clause-opposites : goal.returns-clause-opposites
+returns-clause-opposites c =
+    let past : length c.args.clause.now ≤ c.loop-lit.lit-index = omega arith in
+    sym c.loop-lit.invariant.plain ∙ ap has_opposites (take_all c.loop-lit.lit-index c.args.clause.now past)
+
+pub returns-clause-terms : goal.returns-clause-terms
+returns-clause-terms c = λ told.
+    let past : length c.args.clause.now ≤ c.loop-lit.lit-index = omega arith in
+    c.loop-lit.invariant.terms
+    ∙ ap (λ (ls : List Literal). map unit (distinct ls)) (take_all c.loop-lit.lit-index c.args.clause.now past)
+
+pub returns-clause-values : goal.returns-clause-values
+returns-clause-values c = λ told.
+    let past : length c.args.clause.now ≤ c.loop-lit.lit-index = omega arith in
+    c.loop-lit.invariant.values ∙ ap denied (take_all c.loop-lit.lit-index c.args.clause.now past)
