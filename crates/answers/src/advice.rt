@@ -26,7 +26,6 @@ fn hex_digit(n: u8) -> u8
 }
 
 /// Puts printable bytes behind a text.
-#[tactic(auto, using(crate::proofs::PrintableLemmas::appended))]
 fn put_printable(text: &mut Vec<u8>, piece: &[u8]) -> Result<(), AllocError>
     requires text { is_printable text.old.items ≡ true }
     requires piece { is_printable piece.now ≡ true }
@@ -81,6 +80,14 @@ impl Advice {
                 other => self.put(other)?,
             }
             rest = later;
+        }
+        Ok(())
+    }
+
+    /// Puts words of the program behind the text, one after another.
+    pub(crate) fn say_all(&mut self, parts: &[&str]) -> Result<(), AllocError> {
+        for words in parts {
+            self.say(*words)?;
         }
         Ok(())
     }

@@ -3,7 +3,7 @@
 use crate::Advice;
 use refutation::LogKind;
 use robinx_read::FormKind;
-use std::alloc::{AllocError, Global};
+use std::alloc::AllocError;
 
 /// What a file is to be.
 fn kind_of_file(which: &str) -> &'static str {
@@ -15,43 +15,33 @@ fn kind_of_file(which: &str) -> &'static str {
     }
 }
 
-/// A file can't be read, for this reason.
+/// Says that a file can't be read, for this reason.
 pub(crate) fn on_fault(
-    alloc: Global,
+    advice: &mut Advice,
     which: &str,
     name: &str,
     reason: Option<&'static str>,
-) -> Result<Advice, AllocError> {
-    let mut advice = Advice::new(alloc);
-    advice.say("robin: can't read the ")?;
-    advice.say(kind_of_file(which))?;
-    advice.say(", ")?;
+) -> Result<(), AllocError> {
+    advice.say_all(&["robin: can't read the ", kind_of_file(which), ", "])?;
     advice.show(name.as_bytes())?;
     if let Some(reason) = reason {
-        advice.say(": ")?;
-        advice.say(reason)?;
+        advice.say_all(&[": ", reason])?;
     }
-    advice.end_line()?;
-    Ok(advice)
+    advice.end_line()
 }
 
-/// A file has more bytes than its limit.
+/// Says that a file has more bytes than its limit.
 pub(crate) fn on_length(
-    alloc: Global,
+    advice: &mut Advice,
     which: &str,
     name: &str,
     limit: usize,
-) -> Result<Advice, AllocError> {
-    let mut advice = Advice::new(alloc);
-    advice.say("robin: the ")?;
-    advice.say(kind_of_file(which))?;
-    advice.say(", ")?;
+) -> Result<(), AllocError> {
+    advice.say_all(&["robin: the ", kind_of_file(which), ", "])?;
     advice.show(name.as_bytes())?;
     advice.say(", has more than ")?;
     advice.count(limit as u64)?;
-    advice.say(" bytes, the most that are read")?;
-    advice.end_line()?;
-    Ok(advice)
+    advice.say(" bytes, the most that are read\n")
 }
 
 /// The line of this number, from 1, without white bytes at its front; nothing where there is none.
@@ -112,23 +102,31 @@ fn team_tags(bytes: &[u8]) -> usize {
     tags
 }
 
-/// The attributes that have to stand in a tag that begins a line, each but the last with a space behind it.
+/// How the tags of some elements begin, with the attributes that have to stand there, each but the last with a space
+/// behind it.
+const WANTED: [(&str, &str); 12] = [
+    ("<team", "id"),
+    ("<slot", "id"),
+    ("<Sche", "home away slot"),
+    ("<CA1", "type teams max mode slots"),
+    ("<CA2", "type teams1 teams2 max mode1 slots"),
+    ("<CA3", "type teams1 teams2 max mode1 intp"),
+    ("<CA4", "type teams1 teams2 max mode1 mode2 slots"),
+    ("<GA1", "type meetings min max slots"),
+    ("<BR1", "type teams intp mode2 slots"),
+    ("<BR2", "type teams intp slots"),
+    ("<FA2", "type teams intp slots"),
+    ("<SE1", "type teams min"),
+];
+
+/// The attributes that have to stand in a tag that begins a line.
 fn wanted_in(line: &[u8]) -> &'static str {
-    match line {
-        [b'<', b't', b'e', b'a', b'm', ..] => "id",
-        [b'<', b's', b'l', b'o', b't', ..] => "id",
-        [b'<', b'S', b'c', b'h', b'e', ..] => "home away slot",
-        [b'<', b'C', b'A', b'1', ..] => "type teams max mode slots",
-        [b'<', b'C', b'A', b'2', ..] => "type teams1 teams2 max mode1 slots",
-        [b'<', b'C', b'A', b'3', ..] => "type teams1 teams2 max mode1 intp",
-        [b'<', b'C', b'A', b'4', ..] => "type teams1 teams2 max mode1 mode2 slots",
-        [b'<', b'G', b'A', b'1', ..] => "type meetings min max slots",
-        [b'<', b'B', b'R', b'1', ..] => "type teams intp mode2 slots",
-        [b'<', b'B', b'R', b'2', ..] => "type teams intp slots",
-        [b'<', b'F', b'A', b'2', ..] => "type teams intp slots",
-        [b'<', b'S', b'E', b'1', ..] => "type teams min",
-        _ => "",
+    for (front, names) in &WANTED {
+        if line.starts_with(front.as_bytes()) {
+            return *names;
+        }
     }
+    ""
 }
 
 /// Whether a line begins with the tag of a constraint.
@@ -173,11 +171,7 @@ fn say_more(
 ) -> Result<(), AllocError> {
     match kind {
         FormKind::MissingAttribute => match unseen_attribute(line) {
-            Some(name) => {
-                advice.say(": no `")?;
-                advice.say(name)?;
-                advice.say("=` is seen in this line")
-            }
+            Some(name) => advice.say_all(&[": no `", name, "=` is seen in this line"]),
             None => Ok(()),
         },
         FormKind::UnsupportedClass if is_constraint(line) => advice.say(
@@ -223,40 +217,38 @@ fn is_league(bytes: &[u8]) -> bool {
     holds(bytes, "<Instance") && !holds(bytes, "<Solution")
 }
 
-/// A file of this name and these bytes has a fault of form of this kind, on this line.
+/// Says on which line of a file something is wrong.
+fn say_line(advice: &mut Advice, which: &str, name: &str, line: u64) -> Result<(), AllocError> {
+    advice.say_all(&["robin: ", kind_of_file(which), ", "])?;
+    advice.show(name.as_bytes())?;
+    advice.say(", line ")?;
+    advice.count(line)?;
+    advice.say(": ")
+}
+
+/// Says that a file of this name and these bytes has a fault of form of this kind, on this line.
 pub(crate) fn on_form(
-    alloc: Global,
+    advice: &mut Advice,
     which: &str,
     name: &str,
     bytes: &[u8],
     kind: FormKind,
     line: u32,
-) -> Result<Advice, AllocError> {
-    let mut advice = Advice::new(alloc);
+) -> Result<(), AllocError> {
     let text = line_at(bytes, line);
-    advice.say("robin: ")?;
-    advice.say(kind_of_file(which))?;
-    advice.say(", ")?;
-    advice.show(name.as_bytes())?;
-    advice.say(", line ")?;
-    advice.count(u64::from(line))?;
-    advice.say(": ")?;
+    say_line(advice, which, name, u64::from(line))?;
     advice.say(expected(kind))?;
-    say_more(&mut advice, which, bytes, kind, text)?;
+    say_more(advice, which, bytes, kind, text)?;
     advice.say("\n  ")?;
     advice.show(text)?;
-    advice.end_line()?;
-    Ok(advice)
+    advice.end_line()
 }
 
-/// The rows of a league have so many terms, which are too many.
-pub(crate) fn on_rows(alloc: Global, terms: u64) -> Result<Advice, AllocError> {
-    let mut advice = Advice::new(alloc);
+/// Says that the rows of a league have so many terms, which are too many.
+pub(crate) fn on_rows(advice: &mut Advice, terms: u64) -> Result<(), AllocError> {
     advice.say("robin: the league is too large: its rows have ")?;
     advice.count(terms)?;
-    advice.say(" terms, and at most 40000000 are worked with")?;
-    advice.end_line()?;
-    Ok(advice)
+    advice.say(" terms, and at most 40000000 are worked with\n")
 }
 
 /// What was expected where a log has a fault of form of this kind.
@@ -269,20 +261,14 @@ fn expected_in_log(kind: LogKind) -> &'static str {
     }
 }
 
-/// A log of this name has a fault of form of this kind, on this line.
+/// Says that a log of this name has a fault of form of this kind, on this line.
 pub(crate) fn on_log(
-    alloc: Global,
+    advice: &mut Advice,
     name: &str,
     kind: LogKind,
     line: u64,
-) -> Result<Advice, AllocError> {
-    let mut advice = Advice::new(alloc);
-    advice.say("robin: log, ")?;
-    advice.show(name.as_bytes())?;
-    advice.say(", line ")?;
-    advice.count(line)?;
-    advice.say(": ")?;
+) -> Result<(), AllocError> {
+    say_line(advice, "log", name, line)?;
     advice.say(expected_in_log(kind))?;
-    advice.end_line()?;
-    Ok(advice)
+    advice.end_line()
 }

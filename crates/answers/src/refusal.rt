@@ -35,6 +35,12 @@ impl Refusal {
     }
 }
 
+/// The advice, if it was told whole.
+fn told_whole(advice: Advice, told: Result<(), AllocError>) -> Result<Advice, AllocError> {
+    told?;
+    Ok(advice)
+}
+
 /// The store failed at a file, for a reason that it may know.
 ///
 /// # Errors
@@ -48,7 +54,9 @@ pub fn unreadable(
     ensures { IfOk result (refused_with (refusals.read_fault which.now)) }
 {
     let reply = unreadable_reply(alloc, which)?;
-    Ok(Refusal::new(alloc, reply, hints::on_fault(alloc, which, name, reason)))
+    let mut advice = Advice::new(alloc);
+    let told = hints::on_fault(&mut advice, which, name, reason);
+    Ok(Refusal::new(alloc, reply, told_whole(advice, told)))
 }
 
 /// A file has more bytes than its limit.
@@ -64,7 +72,9 @@ pub fn past_limit(
     ensures { IfOk result (refused_with (refusals.too_long which.now limit)) }
 {
     let reply = past_limit_reply(alloc, which, limit)?;
-    Ok(Refusal::new(alloc, reply, hints::on_length(alloc, which, name, limit)))
+    let mut advice = Advice::new(alloc);
+    let told = hints::on_length(&mut advice, which, name, limit);
+    Ok(Refusal::new(alloc, reply, told_whole(advice, told)))
 }
 
 /// A file of this name and these bytes has a fault of form of this kind, on this line.
@@ -82,11 +92,9 @@ pub fn malformed(
     ensures { IfOk result (refused_with (refusals.malformed which.now kind line)) }
 {
     let reply = malformed_reply(alloc, which, kind, line)?;
-    Ok(Refusal::new(
-        alloc,
-        reply,
-        hints::on_form(alloc, which, name, bytes, kind, line),
-    ))
+    let mut advice = Advice::new(alloc);
+    let told = hints::on_form(&mut advice, which, name, bytes, kind, line);
+    Ok(Refusal::new(alloc, reply, told_whole(advice, told)))
 }
 
 /// The rows of a league have so many terms, which are too many.
@@ -97,8 +105,9 @@ pub fn rows_refused(alloc: Global, terms: u64) -> Result<Refusal, AllocError>
     ensures { IfOk result (refused_with (refusals.too_large terms)) }
 {
     let reply = rows_reply(alloc, terms)?;
-    let advice = hints::on_rows(alloc, terms);
-    Ok(Refusal::new(alloc, reply, advice))
+    let mut advice = Advice::new(alloc);
+    let told = hints::on_rows(&mut advice, terms);
+    Ok(Refusal::new(alloc, reply, told_whole(advice, told)))
 }
 
 /// A log, or a certificate, has a fault of form of this kind, on this line.
@@ -114,6 +123,7 @@ pub fn log_refused(
     ensures { IfOk result (refused_with (refusals.log_malformed kind line)) }
 {
     let reply = log_reply(alloc, kind, line)?;
-    let advice = hints::on_log(alloc, name, kind, line);
-    Ok(Refusal::new(alloc, reply, advice))
+    let mut advice = Advice::new(alloc);
+    let told = hints::on_log(&mut advice, name, kind, line);
+    Ok(Refusal::new(alloc, reply, told_whole(advice, told)))
 }
