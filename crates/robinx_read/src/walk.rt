@@ -176,6 +176,26 @@ fn on_line(done: Result<(), Stop>, line: u32) -> Result<(), ReadFault>
     }
 }
 
+/// Reads the pieces that are left into `read`, from this position on.
+fn read_pieces<'a, R: Reads>(
+    alloc: Global,
+    tags: &mut TagReader<'a>,
+    position: &mut Position<'a>,
+    read: &mut R,
+) -> Result<(), ReadFault>
+    ensures { Walks
+        (walk.walk R.meaning tags.old.items tags.old.last (position_of position.old read.old))
+        result read.new }
+{
+    'pieces: while let Some(tag) = tags.next(alloc)? {
+        at_piece(alloc, position, read, &tag)?;
+    }
+    if !position.outer.is_empty() || !position.inner.is_complete() {
+        return Err(fault(FormKind::Truncated, tags.end_line()));
+    }
+    Ok(())
+}
+
 /// Reads a whole file of this kind, `InstanceFile` or `SolutionFile`, piece by piece into `read`.
 ///
 /// # Errors
@@ -195,11 +215,5 @@ pub fn read_file<'a, R: Reads>(
         outer: Vec::new(alloc),
         passing: None,
     };
-    'pieces: while let Some(tag) = tags.next(alloc)? {
-        at_piece(alloc, &mut position, read, &tag)?;
-    }
-    if !position.outer.is_empty() || !position.inner.is_complete() {
-        return Err(fault(FormKind::Truncated, tags.end_line()));
-    }
-    Ok(())
+    read_pieces(alloc, &mut tags, &mut position, read)
 }

@@ -8,8 +8,8 @@ use Rattle.robinx_read.specs.Tagged.{of_tags}
 use Rattle.robinx_read.specs.SeenPosition.{position_of}
 use Rattle.robinx_read.specs.Answers.{Walks}
 use Rattle.robinx_read.proofs.WalkLemmas.{next_piece, nothing_left, walk-piece, walk-stop, walk-fault, walk-end, walk-cut, file_end-whole, file_end-open, file_end-incomplete}
-use Rattle.robinx_read.proofs.walk.read_file.Goals as goal
-use Rattle.robinx_read.proofs.walk.read_file.Goals.{then-not-is_empty-via-then-not-is_empty, then-not-is_empty-via-else-not-is_empty+then-not-is_complete}
+use Rattle.robinx_read.proofs.walk.read_pieces.Goals as goal
+use Rattle.robinx_read.proofs.walk.read_pieces.Goals.{then-not-is_empty-via-then-not-is_empty, then-not-is_empty-via-else-not-is_empty+then-not-is_complete}
 
 pub returns-in_err-tag : goal.returns-in_err-tag
 returns-in_err-tag g c =
