@@ -1,5 +1,5 @@
 -- What is answered of a league whose first slots are played.
-use Rattle.std.specs.Prelude.{◌≡◌, ℕ, List, Option}
+use Rattle.std.specs.Prelude.{◌≡◌, ◌≤◌, ℕ, List, Option}
 use Rattle.std.specs.List.{All}
 use Rattle.league.specs.Accepted as costs
 use Rattle.league.specs.Counts.{counts_of}
@@ -45,3 +45,9 @@ abbrev pub IsPlan : List Game → Resumed → Type 0
 IsPlan played (Schedule games objective) = counts_of games ≡ counts_of played
 IsPlan played (Refuted log) = ⊥
 IsPlan played (Spent log) = ⊥
+
+-- the answer is a schedule that costs at least so much
+abbrev pub CostsAtLeast : ℕ → Resumed → Type 0
+CostsAtLeast least (Schedule games objective) = least ≤ objective
+CostsAtLeast least (Refuted log) = ⊥
+CostsAtLeast least (Spent log) = ⊥

@@ -9,3 +9,5 @@ pub mod Near
 -- What a search found:
 pub mod Found
 pub mod Merged
+-- The constraints of a league:
+pub mod Fixed

@@ -1,5 +1,5 @@
 //! A season resumed, and made better.
-ghost use Rattle.std.specs.Prelude.{◌≤◌, ℕ, length, Option, IfOk};
+ghost use Rattle.std.specs.Prelude.{◌≤◌, ℕ, length, Option, IfOk, IfSome};
 ghost use Rattle.std.specs.List.{All};
 ghost use Rattle.league.specs.Accepted.{IsAccepted};
 ghost use Rattle.league.specs.Counts as counts;
@@ -7,12 +7,12 @@ ghost use Rattle.league.specs.Counts.{counts_of};
 ghost use Rattle.league.specs.Instance.{IsGame};
 ghost use Rattle.resume_rows.specs.Kept as kept;
 ghost use Rattle.robin_watch.specs.Limits.{IsKeptTo};
-ghost use Rattle.resume.specs.Answers.{IsPlan, IsResumed, IsResumedBy, IsResumedSeason};
+ghost use Rattle.resume.specs.Answers.{CostsAtLeast, IsPlan, IsResumed, IsResumedBy, IsResumedSeason};
 ghost use Rattle.encoding.specs.Limit.{KeepsLimit};
 
 use crate::judged::{MOST_GAMES, Season};
+use crate::near::{is_accepted, schedule_resumed};
 use crate::{Resumed, resume};
-use deviation::assess;
 use encoding::EncodeFault;
 use kept_descent::{OldPlan, descend_near};
 use league::{League, Schedule};
@@ -67,34 +67,16 @@ fn bettered<W: Watch>(
         → IfOk result (IsResumed league.now played.now k conflicts) }
     ensures plan { IsAccepted league.now (counts_of played.now) → IfOk result (IsPlan played.now) }
 {
-    let assessment = assess(alloc, league, played)?;
-    if assessment.feasible {
+    if is_accepted(alloc, league, played)? {
         return Ok(resumed);
     }
-    match resumed {
-        Resumed::Schedule {
-            schedule,
-            objective,
-        } => {
-            let season = Season {
-                schedule,
-                objective,
-            };
-            let Season {
-                schedule,
-                objective,
-            } = lower_season(alloc, league, played, k, season, watch)?;
-            Ok(Resumed::Schedule {
-                schedule,
-                objective,
-            })
-        }
-        Resumed::Refuted { log } => Ok(Resumed::Refuted { log }),
-        Resumed::Spent { log } => Ok(Resumed::Spent { log }),
+    match lower_season(alloc, league, played, k, &resumed, watch)? {
+        Some(season) => Ok(schedule_resumed(season)),
+        None => Ok(resumed),
     }
 }
 
-/// A schedule that keeps the played games, or a better one.
+/// The season to which moves lead from an answer's season that keeps the played games, where it has one.
 ///
 /// # Errors
 /// Only where memory runs out.
@@ -103,25 +85,33 @@ fn lower_season<W: Watch>(
     league: &League,
     played: &Schedule,
     k: u16,
-    season: Season,
+    resumed: &Resumed,
     watch: &W,
-) -> Result<Season, AllocError>
-    requires { IsResumedSeason league.now played.now k season.schedule season.objective }
-    ensures season { IfOk result (λ lower.
-        IsResumedSeason league.now played.now k lower.schedule lower.objective) }
-    ensures no_dearer { IfOk result (λ lower. lower.objective ≤ season.objective) }
+) -> Result<Option<Season>, AllocError>
+    requires { (conflicts : Option ℕ) × IsResumed league.now played.now k conflicts resumed.now }
+    ensures season { IfOk result (λ found. IfSome found (λ lower.
+        IsResumedSeason league.now played.now k lower.schedule lower.objective)) }
+    ensures no_dearer { IfOk result (λ found. IfSome found (λ lower.
+        CostsAtLeast lower.objective resumed.now)) }
 {
-    if season.schedule.len() > MOST_GAMES {
-        return Ok(season);
+    let Resumed::Schedule {
+        schedule,
+        objective: _,
+    } = resumed
+    else {
+        return Ok(None);
+    };
+    if schedule.len() > MOST_GAMES {
+        return Ok(None);
     }
     let plan = OldPlan {
         league,
         games: &[],
         k,
     };
-    let end = descend_near(alloc, plan, &season.schedule, watch)?;
-    Ok(Season {
+    let end = descend_near(alloc, plan, schedule, watch)?;
+    Ok(Some(Season {
         schedule: end.schedule,
         objective: end.objective,
-    })
+    }))
 }

@@ -1,7 +1,6 @@
 //! A league in which the games of some slots are asked for.
-ghost use Rattle.std.specs.Prelude.{◌≡◌, ◌≤◌, length, IfOk, IfSome, IsTrue, OnOk};
-ghost use Rattle.std.specs.List.{All};
-ghost use Rattle.league.specs.Instance.{class_fits};
+ghost use Rattle.std.specs.Prelude.{◌≡◌, ◌<◌, ◌≤◌, [], true, length, IfOk, IfSome, OnOk};
+ghost use Rattle.resume.specs.Fixed.{AreConstraints};
 
 use league::{Class, Constraint, League, PairSet, Schedule, SlotId, SlotSet, slot_count};
 use std::alloc::{AllocError, Global};
@@ -26,42 +25,74 @@ pub(crate) fn near_league(
     ensures teams { IfOk result (λ made. IfSome made (λ near. near.n ≡ league.now.n)) }
     ensures phases { IfOk result (λ made. IfSome made (λ near. near.phased ≡ league.now.phased)) }
 {
-    let n = league.n();
     let mut constraints = Vec::new(alloc);
-    for constraint in league.constraints() {
-        let copy = constraint.copy()?;
-        if !add_fitting(&mut constraints, n, copy)? {
-            return Ok(None);
-        }
+    copy_all(&mut constraints, league)?;
+    if !add_asked(alloc, &mut constraints, league.n(), games, free)? {
+        return Ok(None);
     }
-    for slot in 0..slot_count(n) {
-        let ask = asked(alloc, games, slot, !free.contains(SlotId(slot)))?;
-        if !add_fitting(&mut constraints, n, ask)? {
-            return Ok(None);
-        }
-    }
-    Ok(Some(League::new(n, league.phased(), constraints)))
+    Ok(Some(League::new(league.n(), league.phased(), constraints)))
 }
 
-/// Adds a constraint that fits a league of n teams, where there is room for one, and says whether it did.
+/// Adds copies of the constraints of a league.
 ///
 /// # Errors
 /// Only where memory runs out.
-fn add_fitting(
+fn copy_all(constraints: &mut Vec<Constraint>, league: &League) -> Result<(), AllocError>
+    requires { constraints.old.items ≡ [] }
+    ensures { OnOk result (AreConstraints league.now.n constraints.new.items) }
+{
+    // For its contract: a league's constraints are few, and fit it.
+    let _n = league.n();
+    for constraint in league.constraints() {
+        constraints.push(constraint.copy()?)?;
+    }
+    Ok(())
+}
+
+/// Adds for each slot the constraint that asks for just the games that a schedule has there, where all of these fit a
+/// league of n teams and there is room for them, and says whether that is so.
+///
+/// # Errors
+/// Only where memory runs out.
+fn add_asked(
+    alloc: Global,
+    constraints: &mut Vec<Constraint>,
+    n: u16,
+    games: &Schedule,
+    free: &SlotSet,
+) -> Result<bool, AllocError>
+    requires teams { n ≤ 40 }
+    requires before { AreConstraints n constraints.old.items }
+    ensures { IfOk result (λ added. added ≡ true → AreConstraints n constraints.new.items) }
+{
+    for slot in 0..slot_count(n) {
+        if constraints.len() >= MOST_CONSTRAINTS {
+            return Ok(false);
+        }
+        let ask = asked(alloc, games, slot, !free.contains(SlotId(slot)))?;
+        if !add(constraints, n, ask)? {
+            return Ok(false);
+        }
+    }
+    Ok(true)
+}
+
+/// Adds a constraint, and says whether it fits a league of n teams.
+///
+/// # Errors
+/// Only where memory runs out.
+fn add(
     constraints: &mut Vec<Constraint>,
     n: u16,
     constraint: Constraint,
 ) -> Result<bool, AllocError>
-    requires fit { All (λ c. IsTrue (class_fits n c.class)) constraints.old.items }
-    requires few { length constraints.old.items ≤ 20000 }
-    ensures fit { OnOk result (All (λ c. IsTrue (class_fits n c.class)) constraints.new.items) }
-    ensures few { OnOk result (length constraints.new.items ≤ 20000) }
+    requires before { AreConstraints n constraints.old.items }
+    requires room { length constraints.old.items < 20000 }
+    ensures { IfOk result (λ fits. fits ≡ true → AreConstraints n constraints.new.items) }
 {
-    if constraints.len() >= MOST_CONSTRAINTS || !constraint.fits(n) {
-        return Ok(false);
-    }
+    let fits = constraint.fits(n);
     constraints.push(constraint)?;
-    Ok(true)
+    Ok(fits)
 }
 
 /// The constraint that asks for just the games that a schedule has in a slot, hard or soft.

@@ -257,7 +257,11 @@ fn end_reached(end: Nearest) -> Neared
 ///
 /// # Errors
 /// Only where memory runs out.
-fn is_accepted(alloc: Global, league: &League, schedule: &Schedule) -> Result<bool, AllocError>
+pub(crate) fn is_accepted(
+    alloc: Global,
+    league: &League,
+    schedule: &Schedule,
+) -> Result<bool, AllocError>
     requires few { length schedule.now ≤ 10000 }
     requires fit { All (IsGame league.now.n) schedule.now }
     ensures { IfOk result (λ is. IsTrue is ↔ IsAccepted league.now (counts_of schedule.now)) }
@@ -287,10 +291,10 @@ fn nearest_found<W: Watch>(
     ensures no_farther { IfOk result (IsNoFarther season.entry.k season.entry.played.now first) }
 {
     let (played, k) = (season.played, season.k);
-    if matches!(first, Resumed::Refuted { .. }) || watch.is_over_now(0) {
-        return Ok(first);
-    }
-    if !is_round_robin(season.league, played) {
+    if matches!(first, Resumed::Refuted { .. })
+        || watch.is_over_now(0)
+        || !is_round_robin(season.league, played)
+    {
         return Ok(first);
     }
     let repaired = repaired_season(alloc, season, budgets, watch)?;
@@ -366,7 +370,7 @@ fn nearer(played: &Schedule, k: u16, resumed: Resumed, near: Option<Season>) -> 
 }
 
 /// A season as an answer.
-fn schedule_resumed(season: Season) -> Resumed
+pub(crate) fn schedule_resumed(season: Season) -> Resumed
     ensures { result ≡ Resumed.Schedule season.schedule season.objective }
 {
     let Season {

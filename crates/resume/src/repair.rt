@@ -49,22 +49,40 @@ pub(crate) fn repaired_season<W: Watch>(
     if !is_small(season.league) {
         return Ok(None);
     }
-    let budgets = short(budgets);
-    let mut free = first_freed(alloc, season)?;
+    let mut free = SlotSet::new(alloc);
+    free_missed(alloc, season, &mut free)?;
+    searched(alloc, season, &mut free, short(budgets), watch)
+}
+
+/// A season that the league accepts and that keeps the played games, where a search finds one with few slots free, or
+/// with more of them.
+///
+/// # Errors
+/// Only where memory runs out.
+fn searched<W: Watch>(
+    alloc: Global,
+    season: PartSeason<'_>,
+    free: &mut SlotSet,
+    budgets: Budgets,
+    watch: &W,
+) -> Result<Option<Season>, AllocError>
+    requires few { length season.played.now ≤ 10000 }
+    requires fit { All (IsGame season.league.now.n) season.played.now }
+    requires round_robin { IsRoundRobin season.league.now.n season.league.now.phased (counts_of season.played.now) }
+    ensures { IfOk result (λ found. IfSome found (λ repaired. IsResumedSeason season.entry.league.now
+        season.entry.played.now season.entry.k repaired.schedule repaired.objective)) }
+{
     for searches in 0..MOST_SEARCHES {
         if watch.is_over_now(searches) {
             return Ok(None);
         }
         watch.tell(News::Phase(Phase::Search));
-        let found = freed_season(alloc, season, &free, budgets, watch)?;
-        if found.is_some() {
-            return Ok(found);
+        if let Some(found) = freed_season(alloc, season, free, budgets, watch)? {
+            return Ok(Some(found));
         }
-        let more = next_freed(alloc, season, &free)?;
-        if more.is_empty() {
+        if !free_more(alloc, season, free)? {
             return Ok(None);
         }
-        add_from(&mut free, more.numbers(), season.k)?;
     }
     Ok(None)
 }
@@ -89,23 +107,22 @@ fn short(budgets: Budgets) -> Budgets {
     }
 }
 
-/// The slots that a repair frees first: those from slot k on that are named by hard constraints which the old plan
+/// Frees the slots that a repair frees first: those from slot k on that are named by hard constraints which the old plan
 /// misses, or where there is none slot k.
 ///
 /// # Errors
 /// Only where memory runs out.
-fn first_freed(alloc: Global, season: PartSeason<'_>) -> Result<SlotSet, AllocError>
+fn free_missed(alloc: Global, season: PartSeason<'_>, free: &mut SlotSet) -> Result<(), AllocError>
     requires few { length season.played.now ≤ 10000 }
     requires fit { All (IsGame season.league.now.n) season.played.now }
 {
     let assessment = assess(alloc, season.league, season.played)?;
     let constraints = season.league.constraints();
-    let mut free = SlotSet::new(alloc);
-    add_missed(&mut free, constraints, &assessment.vectors, season.k)?;
+    add_missed(free, constraints, &assessment.vectors, season.k)?;
     if free.is_empty() {
         let _new = free.insert(SlotId(season.k))?;
     }
-    Ok(free)
+    Ok(())
 }
 
 /// Adds the slots from slot k on that are named by the hard constraints which their vectors say are missed.
@@ -155,26 +172,40 @@ fn add_from(free: &mut SlotSet, slots: &[u16], k: u16) -> Result<(), AllocError>
     Ok(())
 }
 
-/// The slots that a repair frees next: the lowest ones from slot k on that are next to free ones, and then the lowest
-/// ones that aren't free.
+/// Frees the slots that a repair frees next, and says whether there is one: the lowest ones from slot k on that are next
+/// to free ones, and then the lowest ones that aren't free.
 ///
 /// # Errors
 /// Only where memory runs out.
-fn next_freed(
+fn free_more(
     alloc: Global,
     season: PartSeason<'_>,
-    free: &SlotSet,
-) -> Result<SlotSet, AllocError> {
+    free: &mut SlotSet,
+) -> Result<bool, AllocError> {
     let mut next = SlotSet::new(alloc);
+    choose_next(season, free, &mut next)?;
+    add_from(free, next.numbers(), season.k)?;
+    Ok(!next.is_empty())
+}
+
+/// Chooses the slots that a repair frees next.
+///
+/// # Errors
+/// Only where memory runs out.
+fn choose_next(
+    season: PartSeason<'_>,
+    free: &SlotSet,
+    next: &mut SlotSet,
+) -> Result<(), AllocError> {
     for slot in season.k..season.league.slots() {
         if is_beside(free, slot) {
-            add_shut(&mut next, free, slot)?;
+            add_shut(next, free, slot)?;
         }
     }
     for slot in season.k..season.league.slots() {
-        add_shut(&mut next, free, slot)?;
+        add_shut(next, free, slot)?;
     }
-    Ok(next)
+    Ok(())
 }
 
 /// Whether the slot before or behind a slot is free.
