@@ -3,7 +3,7 @@ use Rattle.std.proofs.Common.{◌≡◌, ◌≢◌, ℕ, ◌+◌, ◌-◌, ◌<�
 use Rattle.std.proofs.Common.{ltb, List, [], ◌∷◌, ◌++◌, map, length, get_or, set, Option, Some, None, ◌⊎◌, inl, inr}
 use Rattle.std.proofs.Common.{refl, sym, ap, ◌∙◌, arith, position, find, slice_get, option_map, option_and_then}
 use Rattle.std.proofs.Common.{is_some, IsSome, IsSomeAnd, IsNone, MatchOption, take, drop, ◌^◌, bytes_eq, string_bytes}
-use Rattle.std.proofs.Common.{Vec}
+use Rattle.std.proofs.Common.{Vec, length-drop}
 use Rattle.std.specs.Prelude.{⊤}
 use Rattle.std.specs.List.{position_or_len}
 use Rattle.std.specs.Option.{option_map_or}
@@ -105,6 +105,12 @@ pub Consumes-copied : (file : Option MemFile) (at count : ℕ) (f : MemFile) (by
 Consumes-copied file at count f bytes room is read copied =
     let rest = drop at f.bytes.items in
     rw (is, copied, read) (sym (take-append-drop count rest) ∙ ap (λ more. take count rest ++ more) (drop-drop count at f.bytes.items))
+
+-- as much is copied as is left and fits
+pub IsSomeAnd-copied : (file : Option MemFile) (at count : ℕ) (f : MemFile) (bytes room : List ℕ) → file ≡ Some f → bytes ≡ f.bytes.items → count ≡ min (length room) (length bytes - at)
+    → IsSomeAnd (option_map (λ g. drop at g.bytes.items) file) (λ left. count ≡ min (length room) (length left))
+IsSomeAnd-copied file at count f bytes room is read least =
+    rw (is, length-drop at f.bytes.items, ← read) least
 
 -- where nothing is copied into some room, nothing is left
 pub IsAtEnd-copied : (file : Option MemFile) (at count : ℕ) (f : MemFile) (bytes room : List ℕ) → file ≡ Some f → bytes ≡ f.bytes.items → count ≡ min (length room) (length bytes - at)

@@ -1,7 +1,7 @@
 -- The store in a run and in its rest.
 use Rattle.std.proofs.Common.{◌≡◌, ℕ, ◌+◌, ◌≤◌, List, arith, subst}
 use Rattle.robin_io.specs.Counts.{Rose, TookMore, raised}
-use Rattle.robin_io.specs.Outside.{Store, store_between}
+use Rattle.robin_io.specs.Outside.{store_between}
 use Rattle.robin_io.specs.Rests.{IsRest}
 use Rattle.robin_io.specs.declared.shelf.Shelf.{Ghosts}
 
@@ -10,7 +10,7 @@ took_more-before : (front more old between now : ℕ) → between ≡ raised old
 took_more-before front more old between now is took =
     let told : raised (raised old front) (more + 1) ≤ now = subst (λ (n : ℕ). TookMore more n now) is took in omega arith
 
-rose-before : (old between now : ℕ) → old ≤ between → Rose between now → Rose old now
+pub rose-before : (old between now : ℕ) → old ≤ between → Rose between now → Rose old now
 rose-before old between now later rose = let told : raised between 1 ≤ now = rose in omega arith
 
 -- the contents stay, so many bytes are taken, and no file's count of faults falls: what comes then is the rest
