@@ -9,8 +9,9 @@ ghost use Rattle.walk.specs.Standing.{IsKept};
 ghost use Rattle.walk.specs.Walked.{IsSeasonOf, league_score};
 
 use crate::copies::{copy_games, room_for_games};
+use crate::walker::cost_of;
 use descent::Score;
-use league::{Game, Schedule};
+use league::{Game, League, Schedule};
 use moves::Board;
 use std::alloc::{AllocError, Global};
 
@@ -29,17 +30,18 @@ pub(crate) struct Kept {
 }
 
 impl Kept {
-    /// The games of a board, which have this score.
+    /// The games of a board, with what they cost in a league.
     ///
     /// # Errors
     /// Only where memory runs out.
-    pub(crate) fn new(alloc: Global, board: &Board, score: Score) -> Result<Kept, AllocError>
-        ensures kept { (cost : Counts → Score) → score ≡ cost (round_counts board.now)
-            → IfOk result (IsKept board.now.n board.now.phased cost) }
-        ensures score { IfOk result (λ kept. kept.score ≡ score) }
+    pub(crate) fn of(alloc: Global, league: &League, board: &Board) -> Result<Kept, AllocError>
+        requires teams { board.now.n ≡ league.now.n }
+        ensures kept { IfOk result (IsKept board.now.n board.now.phased (league_score league.now)) }
+        ensures score { IfOk result (λ kept. kept.score ≡ league_score league.now (round_counts board.now)) }
     {
         let mut games = room_for_games(alloc, board.n())?;
         copy_games(board, &mut games);
+        let score = cost_of(alloc, league, &games)?;
         Ok(Kept { games, score })
     }
 
@@ -72,8 +74,7 @@ impl Kept {
     pub(crate) fn schedule(&self, alloc: Global) -> Result<Schedule, AllocError>
         ensures { IfOk result (λ schedule. schedule ≡ self.now.games.items) }
     {
-        let schedule = listed(alloc, &self.games)?;
-        Ok(schedule)
+        listed(alloc, &self.games)
     }
 
     /// What the games cost.
@@ -87,11 +88,11 @@ impl Kept {
     ///
     /// # Errors
     /// Only where memory runs out.
-    pub(crate) fn into_best(self, alloc: Global) -> Result<Best, AllocError>
-        ensures season { (league : Instance) → IsKept league.n league.phased (league_score league) self
+    pub(crate) fn in_order(&self, alloc: Global) -> Result<Best, AllocError>
+        ensures season { (league : Instance) → IsKept league.n league.phased (league_score league) self.now
             → IfOk result (IsSeasonOf league) }
-        ensures few { IfOk result (λ best. length best.games ≡ length self.games.items) }
-        ensures score { IfOk result (λ best. best.score ≡ self.score) }
+        ensures few { IfOk result (λ best. length best.games ≡ length self.now.games.items) }
+        ensures score { IfOk result (λ best. best.score ≡ self.now.score) }
     {
         let mut games = listed(alloc, &self.games)?;
         games.put_in_order();

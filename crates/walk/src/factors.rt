@@ -32,6 +32,16 @@ fn set_entry(table: &mut [Option<u16>], row: u16, column: u16, value: Option<u16
     }
 }
 
+/// The number so many steps on from another below a bound, and from 0 on again behind the bound.
+fn on_from(start: u16, steps: u16, bound: u16) -> u16 {
+    let rest = bound.saturating_sub(start);
+    if steps < rest {
+        start.saturating_add(steps)
+    } else {
+        steps.saturating_sub(rest)
+    }
+}
+
 impl Factors {
     /// No meeting yet of n teams in one slot less.
     ///
@@ -121,7 +131,8 @@ impl Factors {
     /// The first slot, from some slot on, in which a team is free.
     fn free_slot(&self, team: u16, random: &mut Pcg32) -> Option<u16> {
         let start = self.any_slot(random);
-        for slot in (start..self.slots).chain(0..start) {
+        for step in 0..self.slots {
+            let slot = on_from(start, step, self.slots);
             if self.opponent(team, slot).is_none() {
                 return Some(slot);
             }
@@ -132,7 +143,8 @@ impl Factors {
     /// The first team, from some team on, that a team has not met.
     fn lacked_opponent(&self, team: u16, random: &mut Pcg32) -> Option<u16> {
         let start = self.any_team(random);
-        for other in (start..self.n).chain(0..start) {
+        for step in 0..self.n {
+            let other = on_from(start, step, self.n);
             if other != team && entry(&self.meetings, team, other).is_none() {
                 return Some(other);
             }

@@ -33,6 +33,13 @@ pub(crate) fn list_at(lists: &[Vec<usize>], place: usize) -> &[usize] {
     }
 }
 
+/// Sets the value at a place, where there is one.
+pub(crate) fn set_at<T: Copy>(values: &mut [T], place: usize, value: T) {
+    if let Some(entry) = values.get_mut(place) {
+        *entry = value;
+    }
+}
+
 /// Adds a number to the list at a place, unless it is the last there.
 ///
 /// # Errors

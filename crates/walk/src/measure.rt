@@ -1,5 +1,6 @@
 //! What a part of a constraint measures.
 
+use crate::lists::set_at;
 use crate::plays::{Plays, ROW};
 use league::{Class, Constraint};
 use std::alloc::{AllocError, Global};
@@ -100,9 +101,7 @@ fn lead_of(alloc: Global, teams: &[u16], most: u32, slots: &[u16]) -> Result<Mea
     };
     let mut mask = vec![in alloc; 0; ROW]?;
     for slot in slots {
-        if let Some(entry) = mask.get_mut(usize::from(*slot)) {
-            *entry = 255;
-        }
+        set_at(&mut mask, usize::from(*slot), 255);
     }
     Ok(Measure::Lead {
         first: *first,

@@ -1,5 +1,6 @@
 //! Sets of numbers below a bound.
 
+use crate::lists::set_at;
 use std::alloc::{AllocError, Global};
 
 /// Numbers below a bound, each once, in room for all.
@@ -46,57 +47,36 @@ impl NumberSet {
 
     /// Puts in a number.
     pub(crate) fn add(&mut self, number: usize) {
-        let Some(place) = self.places.get_mut(number) else {
+        let Some(None) = self.places.get(number).copied() else {
             return;
         };
-        if place.is_some() {
-            return;
-        }
-        if let Some(free) = self.numbers.get_mut(self.count) {
-            *free = number;
-            *place = Some(self.count);
-            self.count = self.count.saturating_add(1);
-        }
+        self.put(number, self.count);
+        self.count = self.count.saturating_add(1);
     }
 
     /// Takes out a number: the last one comes to its place.
     pub(crate) fn remove(&mut self, number: usize) {
-        let Some(place) = self.take_place(number) else {
+        let Some(Some(place)) = self.places.get(number).copied() else {
             return;
         };
         self.count = self.count.saturating_sub(1);
-        let Some(last) = self.numbers.get(self.count).copied() else {
-            return;
-        };
-        if last != number {
+        if let Some(last) = self.numbers.get(self.count).copied() {
             self.put(last, place);
         }
-    }
-
-    /// The place of a number, which it has no more.
-    fn take_place(&mut self, number: usize) -> Option<usize> {
-        let entry = self.places.get_mut(number)?;
-        let place = *entry;
-        *entry = None;
-        place
+        set_at(&mut self.places, number, None);
     }
 
     /// Gives a number a place.
     fn put(&mut self, number: usize, place: usize) {
-        if let Some(spot) = self.numbers.get_mut(place) {
-            *spot = number;
-        }
-        if let Some(entry) = self.places.get_mut(number) {
-            *entry = Some(place);
-        }
+        set_at(&mut self.numbers, place, number);
+        set_at(&mut self.places, number, Some(place));
     }
 
     /// Takes out all numbers.
     pub(crate) fn clear(&mut self) {
-        for number in self.numbers.iter().take(self.count) {
-            if let Some(place) = self.places.get_mut(*number) {
-                *place = None;
-            }
+        let count = self.count.min(self.numbers.len());
+        for number in &self.numbers[..count] {
+            set_at(&mut self.places, *number, None);
         }
         self.count = 0;
     }

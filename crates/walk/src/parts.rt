@@ -1,49 +1,19 @@
 //! Constraints in parts, each of which is weighed by itself: one for each entry of their deviations.
 
 use crate::subjects::{slots_of, teams_of};
-use crate::weights::{Weighing, Weight};
-use league::{Class, ClassName, Constraint, League, SlotId, SlotSet, Span, TeamId, TeamSet};
+use league::{Class, ClassName, Constraint, SlotId, SlotSet, Span, TeamId, TeamSet};
 use std::alloc::{AllocError, Global};
 
 /// Behind so many parts no further constraints are weighed.
 pub(crate) const MOST: usize = 30_000;
 
-/// Constraints in parts, each with its weight.
-#[derive(Drop)]
-pub(crate) struct Demands {
-    pub(crate) parts: Vec<Constraint>,
-    pub(crate) weights: Vec<Weight>,
-}
-
-/// The constraints of a league that are weighed, in parts: one for each team of CA1, CA2 and BR1, for each team and
-/// window of CA3, for each slot of a CA4 of every slot, for each two teams of FA2 and SE1, and one for each other
-/// constraint.
+/// Adds the parts of a constraint of n teams, unless there are too many parts: one for each team of CA1, CA2 and BR1, for
+/// each team and window of CA3, for each slot of a CA4 of every slot, for each two teams of FA2 and SE1, and one for each
+/// other constraint.
 ///
 /// # Errors
 /// Only where memory runs out.
-pub(crate) fn weighed_demands(
-    alloc: Global,
-    league: &League,
-    weighing: Weighing,
-) -> Result<Demands, AllocError> {
-    let mut parts = Vec::new(alloc);
-    let mut weights = Vec::new(alloc);
-    for constraint in league.constraints() {
-        if let Some(weight) = weighing.weight(constraint) {
-            add_parts(alloc, league.n(), constraint, &mut parts)?;
-            for _part in weights.len()..parts.len() {
-                weights.push(weight)?;
-            }
-        }
-    }
-    Ok(Demands { parts, weights })
-}
-
-/// Adds the parts of a constraint of n teams, unless there are too many parts.
-///
-/// # Errors
-/// Only where memory runs out.
-fn add_parts(
+pub(crate) fn add_parts(
     alloc: Global,
     n: u16,
     constraint: &Constraint,
@@ -98,7 +68,7 @@ fn add_teams(
     parts: &mut Vec<Constraint>,
 ) -> Result<(), AllocError> {
     for team in teams {
-        parts.push(of_teams(alloc, constraint, &[*team])?)?;
+        add_for(alloc, constraint, &[*team], parts)?;
     }
     Ok(())
 }
@@ -113,11 +83,25 @@ fn add_pairs(
     teams: &[u16],
     parts: &mut Vec<Constraint>,
 ) -> Result<(), AllocError> {
-    for (place, first) in teams.iter().enumerate() {
-        for second in teams.iter().skip(place + 1) {
-            parts.push(of_teams(alloc, constraint, &[*first, *second])?)?;
+    for first in 0..teams.len() {
+        for second in first + 1..teams.len() {
+            add_for(alloc, constraint, &[teams[first], teams[second]], parts)?;
         }
     }
+    Ok(())
+}
+
+/// Adds a part that speaks of these teams only.
+///
+/// # Errors
+/// Only where memory runs out.
+fn add_for(
+    alloc: Global,
+    constraint: &Constraint,
+    teams: &[u16],
+    parts: &mut Vec<Constraint>,
+) -> Result<(), AllocError> {
+    parts.push(of_teams(alloc, constraint, teams)?)?;
     Ok(())
 }
 
@@ -156,10 +140,26 @@ fn add_windows_of(
     for first in 0..slots {
         let end = u32::from(first).saturating_add(*intp);
         if end <= u32::from(slots) {
-            let window = slots_between(alloc, first, end as u16)?;
-            parts.push(in_window(alloc, constraint, team, window)?)?;
+            add_window(alloc, constraint, team, first, end as u16, parts)?;
         }
     }
+    Ok(())
+}
+
+/// Adds a part for one of a CA3's teams in the slots from one on, as far as another one, which isn't among them.
+///
+/// # Errors
+/// Only where memory runs out.
+fn add_window(
+    alloc: Global,
+    constraint: &Constraint,
+    team: u16,
+    first: u16,
+    end: u16,
+    parts: &mut Vec<Constraint>,
+) -> Result<(), AllocError> {
+    let slots = slots_between(alloc, first, end)?;
+    parts.push(in_window(alloc, constraint, team, slots)?)?;
     Ok(())
 }
 
@@ -224,21 +224,27 @@ fn add_slots(
     parts: &mut Vec<Constraint>,
 ) -> Result<(), AllocError> {
     for slot in slots {
-        parts.push(in_slot(alloc, constraint, *slot)?)?;
+        add_slot(alloc, constraint, *slot, parts)?;
     }
     Ok(())
 }
 
-/// What a CA4 demands of one slot.
+/// Adds what a CA4 demands of one slot.
 ///
 /// # Errors
 /// Only where memory runs out.
-fn in_slot(alloc: Global, constraint: &Constraint, slot: u16) -> Result<Constraint, AllocError> {
+fn add_slot(
+    alloc: Global,
+    constraint: &Constraint,
+    slot: u16,
+    parts: &mut Vec<Constraint>,
+) -> Result<(), AllocError> {
     let mut one = SlotSet::new(alloc);
     one.insert(SlotId(slot))?;
     let mut part = constraint.copy()?;
     set_slots(&mut part.class, one);
-    Ok(part)
+    parts.push(part)?;
+    Ok(())
 }
 
 /// Lets a CA4 speak of these slots.

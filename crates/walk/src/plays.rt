@@ -1,6 +1,6 @@
 //! Where each team plays in each slot, and in which slot each two teams meet.
 
-use crate::lists::{SLOTS, TEAMS, bit, place};
+use crate::lists::{SLOTS, TEAMS, bit, place, set_at};
 use crate::number_set::NumberSet;
 use crate::watches::Mark;
 use league::{Game, SlotId, TeamId};
@@ -169,10 +169,8 @@ impl Plays {
     /// Takes back a move that took these games out.
     pub(crate) fn put_back(&mut self, out: &[Game]) {
         for team in self.turned.numbers() {
-            if let Some(venues) = self.venues.get_mut(*team)
-                && let Some(before) = self.before.get(*team)
-            {
-                *venues = *before;
+            if let Some(before) = self.before.get(*team) {
+                set_at(&mut self.venues, *team, *before);
             }
         }
         for game in out {
@@ -215,11 +213,7 @@ impl Plays {
 
     /// Keeps the slot of a game.
     fn meet(&mut self, game: Game) {
-        if let Some(entry) = self
-            .meetings
-            .get_mut(place(game.home.0, TEAMS, game.away.0))
-        {
-            *entry = game.slot.0;
-        }
+        let place = place(game.home.0, TEAMS, game.away.0);
+        set_at(&mut self.meetings, place, game.slot.0);
     }
 }

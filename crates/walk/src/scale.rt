@@ -22,29 +22,32 @@ pub(crate) fn usual_change(
     board: &Board,
     parts: &mut WeighedParts,
 ) -> Result<u64, AllocError> {
-    let changes = drawn_changes(alloc, random, board, parts)?;
+    let mut edit = Edit::new(alloc, board.n())?;
+    let mut changes = Vec::new(alloc);
+    draw_changes(random, board, &mut edit, parts, &mut changes)?;
     Ok(middle_of(changes)?.unwrap_or(1))
 }
 
-/// How much more or less the parts weigh after each drawn move that changes it.
+/// Adds how much more or less the parts weigh after each drawn move that changes it.
 ///
 /// # Errors
 /// Only where memory runs out.
-fn drawn_changes(
-    alloc: Global,
+fn draw_changes(
     random: &mut Pcg32,
     board: &Board,
+    edit: &mut Edit,
     parts: &mut WeighedParts,
-) -> Result<Vec<u64>, AllocError> {
-    let mut edit = Edit::new(alloc, board.n())?;
-    let mut changes = Vec::new(alloc);
+    changes: &mut Vec<u64>,
+) -> Result<(), AllocError>
+    requires edit { edit.old.n ≡ board.now.n }
+{
     'looks: for _look in 0..LOOKS {
-        let change = change_of_move(random, board, &mut edit, parts);
+        let change = change_of_move(random, board, edit, parts);
         if change > 0 {
             changes.push(change)?;
         }
     }
-    Ok(changes)
+    Ok(())
 }
 
 /// How much more or less the parts would weigh after a drawn move of two teams' venues.

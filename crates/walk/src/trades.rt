@@ -8,7 +8,7 @@ ghost use Rattle.league.specs.Counts.{slot_count};
 use crate::aims::Aim;
 use crate::chains::LONGEST;
 use crate::draws::{below, other_team};
-use crate::lists::bit;
+use crate::lists::{bit, set_at};
 use league::{Game, SlotId, TeamId};
 use moves::Board;
 use rand_core::utils::NextWord;
@@ -163,12 +163,8 @@ impl Traded {
 
     /// Gives a game another slot.
     fn replace(&mut self, game: Game, slot: SlotId) {
-        if let Some(out) = self.out.get_mut(self.count)
-            && let Some(into) = self.into.get_mut(self.count)
-        {
-            *out = game;
-            *into = Game { slot, ..game };
-            self.count = self.count.saturating_add(1);
-        }
+        set_at(&mut self.out, self.count, game);
+        set_at(&mut self.into, self.count, Game { slot, ..game });
+        self.count = self.count.saturating_add(1);
     }
 }

@@ -61,6 +61,6 @@ pub fn walk<W: Listener>(
     let mut walker = Walker::new(alloc, league, start, seed, budget)?;
     walker.search(alloc, league, watch)?;
     let tried = budget - walker.left();
-    let best = walker.into_kept().into_best(alloc)?;
+    let best = walker.best.in_order(alloc)?;
     Ok(Walked { best, tried })
 }

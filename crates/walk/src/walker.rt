@@ -109,10 +109,8 @@ impl Walker {
     {
         let n = league.n();
         let standing = Standing::new(alloc, n, league.phased(), start, seed)?;
-        let mut games = room_for_games(alloc, n)?;
-        copy_games(&standing.board, &mut games);
-        let score = cost_of(alloc, league, &games)?;
-        let best = Kept::new(alloc, &standing.board, score)?;
+        let best = Kept::of(alloc, league, &standing.board)?;
+        let games = room_for_games(alloc, n)?;
         Ok(Walker {
             standing,
             games,
@@ -391,11 +389,36 @@ impl Walker {
         copy_games(&self.standing.board, &mut self.games);
         let mut steps = Steps::<Plain>::start();
         let mut tally = league_tally(alloc, league, 1, &self.games, &mut steps)?;
-        self.best.keep(&self.standing.board, Score::of(&tally));
+        self.lower_from(alloc, league, heat, &mut tally, watch)
+    }
+
+    /// Keeps the games, of which the tally is, where they are better than the best so far, and where they meet the hard
+    /// constraints goes on to better ones.
+    ///
+    /// # Errors
+    /// Only where memory runs out.
+    fn lower_from<W: Listener>(
+        &mut self,
+        alloc: Global,
+        league: &League,
+        heat: u64,
+        tally: &mut Tally<AnyRule>,
+        watch: &W,
+    ) -> Result<(), AllocError>
+        requires walker { IsWalkerIn league.now self.old }
+        requires rules { AreRulesOf ⟦<AnyRule as Entries>⟧ 1 league.now tally.old.weights }
+        requires teams { tally.old.table.n ≡ league.now.n }
+        requires counts { table_counts tally.old.table ≡ round_counts self.old.standing.board }
+        ensures walker { OnOk result (IsWalkerIn league.now self.new) }
+        ensures no_worse { OnOk result (IsNoWorse self.new.best.score self.old.best.score) }
+        ensures seen { OnOk result (HasKeptHere league.now self.new) }
+        ensures left { OnOk result (self.new.left ≤ self.old.left) }
+    {
+        self.best.keep(&self.standing.board, Score::of(tally));
         if tally.infeasibility() > 0 {
             return Ok(());
         }
-        self.soften(alloc, league, heat, &mut tally, watch)?;
+        self.soften(alloc, league, heat, tally, watch)?;
         Ok(())
     }
 
@@ -482,20 +505,13 @@ impl Walker {
     {
         self.left
     }
-
-    /// The best games.
-    pub(crate) fn into_kept(self) -> Kept
-        ensures { result ≡ self.best }
-    {
-        self.best
-    }
 }
 
 /// What games cost in a league.
 ///
 /// # Errors
 /// Only where memory runs out.
-fn cost_of(alloc: Global, league: &League, games: &[Game]) -> Result<Score, AllocError>
+pub(crate) fn cost_of(alloc: Global, league: &League, games: &[Game]) -> Result<Score, AllocError>
     requires fit { All (IsGame league.now.n) games.now }
     requires few { length games.now ≤ 1600 }
     ensures { IfOk result (λ score. score ≡ league_score league.now (counts_of games.now)) }

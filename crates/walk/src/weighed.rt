@@ -3,7 +3,7 @@ use crate::draws::any_of;
 use crate::lists::{SLOTS, TEAMS, bit};
 use crate::measure::Measure;
 use crate::number_set::NumberSet;
-use crate::parts::{Demands, MOST, weighed_demands};
+use crate::parts::{MOST, add_parts};
 use crate::plays::Plays;
 use crate::spots::Spots;
 use crate::watches::{Mark, Watches};
@@ -27,6 +27,21 @@ struct Part {
 }
 
 impl Part {
+    /// A part of a league of n teams that measures what a constraint demands, with a weight. Nothing was counted yet.
+    ///
+    /// # Errors
+    /// Only where memory runs out.
+    fn of(alloc: Global, n: u16, weight: Weight, demand: &Constraint) -> Result<Part, AllocError> {
+        Ok(Part {
+            weight,
+            measure: Measure::of(alloc, n, demand)?,
+            count: 0,
+            change: 0,
+            deviation: 0,
+            then: 0,
+        })
+    }
+
     /// Whether it is a part of a hard constraint, and isn't met.
     fn is_unmet(&self) -> bool {
         self.weight.is_hard() && self.deviation > 0
@@ -388,12 +403,48 @@ fn listed_parts(
     league: &League,
     weighing: Weighing,
 ) -> Result<(Vec<Constraint>, Vec<Part>), AllocError> {
-    let Demands {
-        parts: demands,
-        weights,
-    } = weighed_demands(alloc, league, weighing)?;
-    let parts = parts_of(alloc, league.n(), &demands, &weights)?;
+    let mut demands = Vec::new(alloc);
+    let mut parts = Vec::new(alloc);
+    list_parts(alloc, league, weighing, &mut demands, &mut parts)?;
     Ok((demands, parts))
+}
+
+/// Lists what the parts of a league's constraints demand that are weighed, and these parts.
+///
+/// # Errors
+/// Only where memory runs out.
+fn list_parts(
+    alloc: Global,
+    league: &League,
+    weighing: Weighing,
+    demands: &mut Vec<Constraint>,
+    parts: &mut Vec<Part>,
+) -> Result<(), AllocError> {
+    let n = league.n();
+    for constraint in league.constraints() {
+        if let Some(weight) = weighing.weight(constraint) {
+            add_parts(alloc, n, constraint, demands)?;
+            measure_parts(alloc, n, weight, demands, parts)?;
+        }
+    }
+    Ok(())
+}
+
+/// Adds parts of a weight, which measure those of these demands that have none yet.
+///
+/// # Errors
+/// Only where memory runs out.
+fn measure_parts(
+    alloc: Global,
+    n: u16,
+    weight: Weight,
+    demands: &[Constraint],
+    parts: &mut Vec<Part>,
+) -> Result<(), AllocError> {
+    for place in parts.len()..demands.len() {
+        parts.push(Part::of(alloc, n, weight, &demands[place])?)?;
+    }
+    Ok(())
 }
 
 /// Which of these parts watch each game, and which of them it can change.
@@ -421,30 +472,6 @@ fn room_for(
         NumberSet::new(alloc, parts)?,
         NumberSet::new(alloc, parts)?,
     ))
-}
-
-/// Parts that measure what these constraints demand, with their weights.
-///
-/// # Errors
-/// Only where memory runs out.
-fn parts_of(
-    alloc: Global,
-    n: u16,
-    demands: &[Constraint],
-    weights: &[Weight],
-) -> Result<Vec<Part>, AllocError> {
-    let mut parts = Vec::with_capacity(alloc, demands.len())?;
-    for (demand, weight) in demands.iter().zip(weights) {
-        parts.push(Part {
-            weight: *weight,
-            measure: Measure::of(alloc, n, demand)?,
-            count: 0,
-            change: 0,
-            deviation: 0,
-            then: 0,
-        })?;
-    }
-    Ok(parts)
 }
 
 /// Changes what a part counts by one more, or one less.

@@ -1,7 +1,6 @@
-use Rattle.std.proofs.Common.{◌≡◌, ℕ, ◌*◌, ◌≤◌, Bool, List, refl, ap, subst, sym, ◌∙◌}
+use Rattle.std.proofs.Common.{ℕ, ◌*◌, ◌≤◌, Bool, refl, ap, subst, sym, ◌∙◌}
 use Rattle.std.specs.Prelude.{vec_capacity}
 use Rattle.league.specs.Counts.{Counts, counts_of}
-use Rattle.league.specs.declared.game.Game.{Game}
 use Rattle.moves.specs.Round.{Round, round_counts}
 use Rattle.descent.specs.Score.{IsNoWorse}
 use Rattle.descent.specs.declared.score.Score.{Score}
@@ -26,33 +25,19 @@ returns-clause-walker c =
     standing-at n c.n-n.result phased c.phased.result (round_counts board) (counts_of c.args.start.now)
     c.in_ok-standing.standing c.n-n.ensures.n c.phased.ensures (sym c.in_ok-standing.ensures.standing.counts)
     c.in_ok-standing.ensures.standing in
-    let counts : counts_of c.deref.result.now ≡ round_counts board =
-    ap (λ (games : List Game). counts_of games) c.deref.ensures.value ∙ c.copy_games.ensures.copy.counts in
-    let same : c.in_ok-score.score ≡ cost (round_counts board) =
-    c.in_ok-score.ensures ∙ ap (λ (m : Counts). cost m) counts in
     record {
       standing = stands;
-      room = subst (λ (k : ℕ). k * k ≤ vec_capacity c.copy_games.new.games) c.n-n.ensures.n
-          (subst (λ (room : ℕ). c.n-n.result * c.n-n.result ≤ room) (sym c.copy_games.ensures.room)
-          c.in_ok-games.ensures);
+      room = subst (λ (k : ℕ). k * k ≤ vec_capacity c.in_ok-games.games) c.n-n.ensures.n c.in_ok-games.ensures;
       best = kept-at n board.n phased board.phased cost cost c.in_ok-best.best stands.teams stands.phases refl
-          (c.in_ok-best.ensures.kept cost same);
+          c.in_ok-best.ensures.kept;
     }
 
 pub returns-clause-score : goal.returns-clause-score
 returns-clause-score c =
     let cost : Counts → Score = league_score c.args.league.now in
-    let counts : counts_of c.deref.result.now ≡ counts_of c.args.start.now =
-    ap (λ (games : List Game). counts_of games) c.deref.ensures.value ∙ c.copy_games.ensures.copy.counts
-    ∙ c.in_ok-standing.ensures.standing.counts in
-    c.in_ok-best.ensures.score ∙ c.in_ok-score.ensures ∙ ap (λ (m : Counts). cost m) counts
+    c.in_ok-best.ensures.score ∙ ap (λ (m : Counts). cost m) c.in_ok-standing.ensures.standing.counts
 
 pub returns-clause-seen : goal.returns-clause-seen
 returns-clause-seen c =
-    let board : Round = c.in_ok-standing.standing.board in
-    let cost : Counts → Score = league_score c.args.league.now in
-    let counts : counts_of c.deref.result.now ≡ round_counts board =
-    ap (λ (games : List Game). counts_of games) c.deref.ensures.value ∙ c.copy_games.ensures.copy.counts in
-    let same : c.in_ok-best.best.score ≡ cost (round_counts board) =
-    c.in_ok-best.ensures.score ∙ c.in_ok-score.ensures ∙ ap (λ (m : Counts). cost m) counts in
-    subst (λ (s : Score). IsNoWorse c.in_ok-best.best.score s) same (IsNoWorse-itself c.in_ok-best.best.score)
+    subst (λ (s : Score). IsNoWorse c.in_ok-best.best.score s) c.in_ok-best.ensures.score
+    (IsNoWorse-itself c.in_ok-best.best.score)

@@ -1,5 +1,5 @@
 use Rattle.std.specs.Prelude.{◌≡◌}
-use Rattle.walk.proofs.scale.drawn_changes.Given as goal
+use Rattle.walk.proofs.scale.draw_changes.Given as goal
 
 -- the edit is for the board
 abbrev pub invariant-looks : goal.invariant-looks

@@ -8,12 +8,12 @@ use Rattle.league.specs.Structure.{IsRoundRobin}
 use Rattle.league.specs.declared.game.Game.{Game}
 use Rattle.league.proofs.CountLemmas.{counts_of-permutation}
 use Rattle.walk.specs.Walked.{league_score}
-use Rattle.walk.proofs.best.Kept.into_best.Goals as goal
+use Rattle.walk.proofs.best.Kept.in_order.Goals as goal
 
 pub returns-clause-season : goal.returns-clause-season
 returns-clause-season c league is =
-    let listed : c.in_ok-games.games ≡ c.args.self.games.items = c.in_ok-games.ensures ∙ c.deref.ensures.value in
-    let counts : counts_of c.put_in_order.new.self ≡ counts_of c.args.self.games.items =
+    let listed : c.in_ok-games.games ≡ c.args.self.now.games.items = c.in_ok-games.ensures ∙ c.deref.ensures.value in
+    let counts : counts_of c.put_in_order.new.self ≡ counts_of c.args.self.now.games.items =
     counts_of-permutation c.in_ok-games.games c.put_in_order.new.self c.put_in_order.ensures.permutation
     ∙ ap (λ (games : List Game). counts_of games) listed in
     record {
@@ -27,6 +27,6 @@ returns-clause-season c league is =
 
 pub returns-clause-few : goal.returns-clause-few
 returns-clause-few c =
-    let listed : c.in_ok-games.games ≡ c.args.self.games.items = c.in_ok-games.ensures ∙ c.deref.ensures.value in
+    let listed : c.in_ok-games.games ≡ c.args.self.now.games.items = c.in_ok-games.ensures ∙ c.deref.ensures.value in
     length_permutation c.in_ok-games.games c.put_in_order.new.self c.put_in_order.ensures.permutation
     ∙ ap (λ (games : List Game). length games) listed
