@@ -1,4 +1,4 @@
-use Rattle.std.proofs.Common.{◌≡◌, ℕ, ◌<◌, ◌++◌, List, ap, inr, length, map, refl, subst, sym, ◌∙◌}
+use Rattle.std.proofs.Common.{ℕ, ◌<◌, ◌++◌, List, ap, inr, length, map, refl, subst, sym, ◌∙◌}
 use Rattle.std.specs.List.{All}
 use Rattle.propagate.specs.Trails.{KnowsVariables, SeenTrail}
 use Rattle.clause_search.specs.Kept.{few_variables, steps_at}

@@ -28,8 +28,8 @@ turns-init g c = record {
 pub take_turn-requires : goal.take_turn-requires
 take_turn-requires g c =
     let under =
-    under_run c.args.rows.now c.args.trail.now.vars c.turns.desk.given c.turns.log c.turns.desk.kept.places.items c.turns.trail
-    c.run-found.new.self c.turns.invariant.under c.run-found.ensures.vars c.run-found.ensures.rows
+    under_run c.args.rows.now c.args.trail.now.vars c.turns.desk.given c.turns.log c.turns.desk.kept.places.items
+    c.turns.trail c.run-found.new.self c.turns.invariant.under c.run-found.ensures.vars c.run-found.ensures.rows
     c.run-found.ensures.below in
     record {
       vars = c.turns.invariant.vars ∙ sym under.vars_are;
@@ -42,8 +42,8 @@ take_turn-requires g c =
 pub lighten-requires : goal.lighten-requires
 lighten-requires g c =
     let under =
-    under_run c.args.rows.now c.args.trail.now.vars c.turns.desk.given c.turns.log c.turns.desk.kept.places.items c.turns.trail
-    c.run-found.new.self c.turns.invariant.under c.run-found.ensures.vars c.run-found.ensures.rows
+    under_run c.args.rows.now c.args.trail.now.vars c.turns.desk.given c.turns.log c.turns.desk.kept.places.items
+    c.turns.trail c.run-found.new.self c.turns.invariant.under c.run-found.ensures.vars c.run-found.ensures.rows
     c.run-found.ensures.below in
     let t : Turned =
     turned c.turns.desk.given c.turns.log c.take_turn.new.log c.turns.desk.kept.places.items
@@ -52,8 +52,8 @@ lighten-requires g c =
     subst (λ (x : Turn). IsTurn t c.run-found.new.self c.take_turn.new.trail c.limit_here-kept.result x) c.in-Again.is
     c.in_ok-turn.ensures.turn in
     let now =
-    under_turned c.args.rows.now c.args.trail.now.vars t c.run-found.new.self c.take_turn.new.trail c.limit_here-kept.result under
-    is in
+    under_turned c.args.rows.now c.args.trail.now.vars t c.run-found.new.self c.take_turn.new.trail
+    c.limit_here-kept.result under is in
     record {
       known = subst (λ (v : ℕ). All (KnowsVariables v) c.args.rows.now) (sym now.vars_are) c.requires.known;
       vars = c.take_turn.ensures.vars ∙ c.turns.invariant.vars ∙ sym now.vars_are;
@@ -66,8 +66,8 @@ lighten-requires g c =
 pub turns-preserved : goal.turns-preserved
 turns-preserved g c =
     let under =
-    under_run c.args.rows.now c.args.trail.now.vars c.turns.desk.given c.turns.log c.turns.desk.kept.places.items c.turns.trail
-    c.run-found.new.self c.turns.invariant.under c.run-found.ensures.vars c.run-found.ensures.rows
+    under_run c.args.rows.now c.args.trail.now.vars c.turns.desk.given c.turns.log c.turns.desk.kept.places.items
+    c.turns.trail c.run-found.new.self c.turns.invariant.under c.run-found.ensures.vars c.run-found.ensures.rows
     c.run-found.ensures.below in
     let t : Turned =
     turned c.turns.desk.given c.turns.log c.take_turn.new.log c.turns.desk.kept.places.items
@@ -79,16 +79,17 @@ turns-preserved g c =
     subst (λ (x : Turn). IsTurn t c.run-found.new.self c.take_turn.new.trail c.limit_here-kept.result x) c.in-Again.is
     c.in_ok-turn.ensures.turn in
     let now =
-    under_turned c.args.rows.now c.args.trail.now.vars t c.run-found.new.self c.take_turn.new.trail c.limit_here-kept.result under
-    is in
+    under_turned c.args.rows.now c.args.trail.now.vars t c.run-found.new.self c.take_turn.new.trail
+    c.limit_here-kept.result under is in
     record {
       vars = c.lighten.ensures.vars ∙ c.take_turn.ensures.vars ∙ c.turns.invariant.vars;
       under =
-          under_same c.args.rows.now c.args.trail.now.vars c.turns.desk.given c.lighten.new.desk.given c.take_turn.new.log
+          under_same c.args.rows.now c.args.trail.now.vars c.turns.desk.given c.lighten.new.desk.given
+          c.take_turn.new.log
           c.take_turn.new.log c.lighten.new.desk.kept.places.items c.lighten.new.desk.kept.places.items
           c.lighten.new.trail (c.lighten.ensures.given ∙ c.take_turn.ensures.given) refl refl
-          (under_lightened c.args.rows.now c.args.trail.now.vars c.turns.desk.given c.take_turn.new.log l c.lighten.new.trail
-          now c.in_ok-lighten-in-Again.ensures.lightened);
+          (under_lightened c.args.rows.now c.args.trail.now.vars c.turns.desk.given c.take_turn.new.log l
+          c.lighten.new.trail now c.in_ok-lighten-in-Again.ensures.lightened);
       within =
           within_turned t c.run-found.new.self c.take_turn.new.trail c.limit_here-kept.result c.args.limit is
           c.turns.invariant.within
@@ -107,8 +108,8 @@ turns-preserved g c =
 pub turns-smaller : goal.turns-smaller
 turns-smaller g c =
     let under =
-    under_run c.args.rows.now c.args.trail.now.vars c.turns.desk.given c.turns.log c.turns.desk.kept.places.items c.turns.trail
-    c.run-found.new.self c.turns.invariant.under c.run-found.ensures.vars c.run-found.ensures.rows
+    under_run c.args.rows.now c.args.trail.now.vars c.turns.desk.given c.turns.log c.turns.desk.kept.places.items
+    c.turns.trail c.run-found.new.self c.turns.invariant.under c.run-found.ensures.vars c.run-found.ensures.rows
     c.run-found.ensures.below in
     let t : Turned =
     turned c.turns.desk.given c.turns.log c.take_turn.new.log c.turns.desk.kept.places.items
@@ -120,19 +121,19 @@ turns-smaller g c =
     subst (λ (x : Turn). IsTurn t c.run-found.new.self c.take_turn.new.trail c.limit_here-kept.result x) c.in-Again.is
     c.in_ok-turn.ensures.turn in
     let now =
-    under_turned c.args.rows.now c.args.trail.now.vars t c.run-found.new.self c.take_turn.new.trail c.limit_here-kept.result under
-    is in
+    under_turned c.args.rows.now c.args.trail.now.vars t c.run-found.new.self c.take_turn.new.trail
+    c.limit_here-kept.result under is in
     left_lightened c.args.rows.now c.args.trail.now.vars c.turns.desk.given c.take_turn.new.log l c.lighten.new.trail
-    (left c.args.trail.now.vars c.turns.desk.kept.room (length c.turns.desk.kept.places.items) (length c.turns.trail.entries))
-    now c.in_ok-lighten-in-Again.ensures.lightened
-    (left_turned c.args.rows.now c.args.trail.now.vars t c.run-found.new.self c.take_turn.new.trail c.limit_here-kept.result
-    (length c.turns.trail.entries) under is c.run-found.ensures.grown.longer)
+    (left c.args.trail.now.vars c.turns.desk.kept.room (length c.turns.desk.kept.places.items)
+    (length c.turns.trail.entries)) now c.in_ok-lighten-in-Again.ensures.lightened
+    (left_turned c.args.rows.now c.args.trail.now.vars t c.run-found.new.self c.take_turn.new.trail
+    c.limit_here-kept.result (length c.turns.trail.entries) under is c.run-found.ensures.grown.longer)
 
 pub returns-in-Satisfied-clause-answer : goal.returns-in-Satisfied-clause-answer
 returns-in-Satisfied-clause-answer g c =
     let under =
-    under_run c.args.rows.now c.args.trail.now.vars c.turns.desk.given c.turns.log c.turns.desk.kept.places.items c.turns.trail
-    c.run-found.new.self c.turns.invariant.under c.run-found.ensures.vars c.run-found.ensures.rows
+    under_run c.args.rows.now c.args.trail.now.vars c.turns.desk.given c.turns.log c.turns.desk.kept.places.items
+    c.turns.trail c.run-found.new.self c.turns.invariant.under c.run-found.ensures.vars c.run-found.ensures.rows
     c.run-found.ensures.below in
     let t : Turned =
     turned c.turns.desk.given c.turns.log c.take_turn.new.log c.turns.desk.kept.places.items
@@ -141,8 +142,8 @@ returns-in-Satisfied-clause-answer g c =
       kept = c.args.limit;
       is_kept = inl refl;
       answer =
-          answer_satisfied c.args.rows.now c.args.trail.now.vars c.turns.desk.given c.turns.log c.turns.desk.kept.places.items
-          c.run-found.new.self c.in-Satisfied.values under
+          answer_satisfied c.args.rows.now c.args.trail.now.vars c.turns.desk.given c.turns.log
+          c.turns.desk.kept.places.items c.run-found.new.self c.in-Satisfied.values under
           (subst (λ (x : Turn). IsTurn t c.run-found.new.self c.take_turn.new.trail c.limit_here-kept.result x)
           c.in-Satisfied.is c.in_ok-turn.ensures.turn);
     }
@@ -150,8 +151,8 @@ returns-in-Satisfied-clause-answer g c =
 pub returns-in-Refuted-clause-answer : goal.returns-in-Refuted-clause-answer
 returns-in-Refuted-clause-answer g c =
     let under =
-    under_run c.args.rows.now c.args.trail.now.vars c.turns.desk.given c.turns.log c.turns.desk.kept.places.items c.turns.trail
-    c.run-found.new.self c.turns.invariant.under c.run-found.ensures.vars c.run-found.ensures.rows
+    under_run c.args.rows.now c.args.trail.now.vars c.turns.desk.given c.turns.log c.turns.desk.kept.places.items
+    c.turns.trail c.run-found.new.self c.turns.invariant.under c.run-found.ensures.vars c.run-found.ensures.rows
     c.run-found.ensures.below in
     let t : Turned =
     turned c.turns.desk.given c.turns.log c.take_turn.new.log c.turns.desk.kept.places.items
@@ -160,8 +161,8 @@ returns-in-Refuted-clause-answer g c =
       kept = c.args.limit;
       is_kept = inl refl;
       answer =
-          answer_refuted c.args.rows.now c.args.trail.now.vars c.turns.desk.given c.turns.desk.kept.places.items c.args.limit
-          c.turns.log c.take_turn.new.log c.run-found.new.self under c.turns.invariant.within
+          answer_refuted c.args.rows.now c.args.trail.now.vars c.turns.desk.given c.turns.desk.kept.places.items
+          c.args.limit c.turns.log c.take_turn.new.log c.run-found.new.self under c.turns.invariant.within
           (subst (λ (x : Turn). IsTurn t c.run-found.new.self c.take_turn.new.trail c.limit_here-kept.result x)
           c.in-Refuted.is c.in_ok-turn.ensures.turn);
     }
@@ -169,8 +170,8 @@ returns-in-Refuted-clause-answer g c =
 pub returns-in-Spent-clause-answer : goal.returns-in-Spent-clause-answer
 returns-in-Spent-clause-answer g c =
     let under =
-    under_run c.args.rows.now c.args.trail.now.vars c.turns.desk.given c.turns.log c.turns.desk.kept.places.items c.turns.trail
-    c.run-found.new.self c.turns.invariant.under c.run-found.ensures.vars c.run-found.ensures.rows
+    under_run c.args.rows.now c.args.trail.now.vars c.turns.desk.given c.turns.log c.turns.desk.kept.places.items
+    c.turns.trail c.run-found.new.self c.turns.invariant.under c.run-found.ensures.vars c.run-found.ensures.rows
     c.run-found.ensures.below in
     let t : Turned =
     turned c.turns.desk.given c.turns.log c.take_turn.new.log c.turns.desk.kept.places.items
@@ -188,8 +189,8 @@ returns-in-Spent-clause-answer g c =
 pub returns-in-Satisfied-clause-planned : goal.returns-in-Satisfied-clause-planned
 returns-in-Satisfied-clause-planned g c = λ first ends.
     let under =
-    under_run c.args.rows.now c.args.trail.now.vars c.turns.desk.given c.turns.log c.turns.desk.kept.places.items c.turns.trail
-    c.run-found.new.self c.turns.invariant.under c.run-found.ensures.vars c.run-found.ensures.rows
+    under_run c.args.rows.now c.args.trail.now.vars c.turns.desk.given c.turns.log c.turns.desk.kept.places.items
+    c.turns.trail c.run-found.new.self c.turns.invariant.under c.run-found.ensures.vars c.run-found.ensures.rows
     c.run-found.ensures.below in
     let t : Turned =
     turned c.turns.desk.given c.turns.log c.take_turn.new.log c.turns.desk.kept.places.items
@@ -202,8 +203,8 @@ returns-in-Satisfied-clause-planned g c = λ first ends.
 pub returns-in-Refuted-clause-planned : goal.returns-in-Refuted-clause-planned
 returns-in-Refuted-clause-planned g c = λ first ends.
     let under =
-    under_run c.args.rows.now c.args.trail.now.vars c.turns.desk.given c.turns.log c.turns.desk.kept.places.items c.turns.trail
-    c.run-found.new.self c.turns.invariant.under c.run-found.ensures.vars c.run-found.ensures.rows
+    under_run c.args.rows.now c.args.trail.now.vars c.turns.desk.given c.turns.log c.turns.desk.kept.places.items
+    c.turns.trail c.run-found.new.self c.turns.invariant.under c.run-found.ensures.vars c.run-found.ensures.rows
     c.run-found.ensures.below in
     let t : Turned =
     turned c.turns.desk.given c.turns.log c.take_turn.new.log c.turns.desk.kept.places.items
@@ -218,8 +219,8 @@ returns-in-Refuted-clause-planned g c = λ first ends.
 pub returns-in-Spent-clause-planned : goal.returns-in-Spent-clause-planned
 returns-in-Spent-clause-planned g c = λ first ends.
     let under =
-    under_run c.args.rows.now c.args.trail.now.vars c.turns.desk.given c.turns.log c.turns.desk.kept.places.items c.turns.trail
-    c.run-found.new.self c.turns.invariant.under c.run-found.ensures.vars c.run-found.ensures.rows
+    under_run c.args.rows.now c.args.trail.now.vars c.turns.desk.given c.turns.log c.turns.desk.kept.places.items
+    c.turns.trail c.run-found.new.self c.turns.invariant.under c.run-found.ensures.vars c.run-found.ensures.rows
     c.run-found.ensures.below in
     let t : Turned =
     turned c.turns.desk.given c.turns.log c.take_turn.new.log c.turns.desk.kept.places.items
