@@ -1,6 +1,5 @@
 //! Answers of `solve` and `prove`, held against `validate`, `check` and `bound`.
 use crate::ended::{Ended, number_in, run_words};
-use std::rt::Files;
 use std::{fs, io};
 
 /// The most steps from a season to a better one.
@@ -31,12 +30,7 @@ fn outcome_of(status: u8, is_true: bool, words: &str) -> &str {
 
 /// Shows what an answer of `solve`, which is in the file `answer`, comes to where `validate` or `check` looks at it, or
 /// these words in place of that, if there are any.
-pub fn show_judged(
-    rt: &(impl AllocGlobal + Files + Print),
-    command: &str,
-    ended: &Ended,
-    words: &str,
-) -> io::Result<()> {
+pub fn show_judged(rt: &HostRuntime, command: &str, ended: &Ended, words: &str) -> io::Result<()> {
     let judge = match ended.status {
         0 => "validate",
         _ => "check",
@@ -70,18 +64,19 @@ fn between<'t>(text: &'t str, mark: &str, end: &str) -> &'t str {
     found
 }
 
-/// Gives each better season to `prove` until nothing is better; the first answer is in the file `answer`. Shows the first
-/// line of the certificate, what `bound` says of it, and what it says where the certificate states one more. That of 0
-/// has no log, so that of 1 wants one.
-pub fn show_least(
-    rt: &(impl AllocGlobal + Files + Print),
-    command: &str,
-    first: u8,
-) -> io::Result<()> {
+/// Gives each better season to `prove` until nothing is better; the first answer is in the file `answer`. Shows what
+/// `bound` says of the certificate, and the last status.
+pub fn show_least(rt: &HostRuntime, command: &str, first: u8) -> io::Result<()> {
     let instance = instance_in(command);
     let status = last_status(rt, instance, first)?;
     let text = fs::read_to_string(rt, "answer")?;
-    let (line, log) = text.as_str().split_once('\n').unwrap_or(("", ""));
+    show_bounds(rt, instance, text.as_str(), status)
+}
+
+/// Shows the first line of a certificate, what `bound` says of it, and what it says where the certificate states one
+/// more. That of 0 has no log, so that of 1 wants one. Then shows a status.
+fn show_bounds(rt: &HostRuntime, instance: &str, text: &str, status: u8) -> io::Result<()> {
+    let (line, log) = text.split_once('\n').unwrap_or(("", ""));
     let least = number_in(line.strip_prefix("bound ").unwrap_or(""));
     show_bound(rt, instance, least, log)?;
     show_bound(rt, instance, least.saturating_add(1), log)?;
@@ -89,7 +84,7 @@ pub fn show_least(
 }
 
 /// The status of `prove` in the end, whose answer is in the file `answer`.
-fn last_status(rt: &(impl AllocGlobal + Files), instance: &str, first: u8) -> io::Result<u8> {
+fn last_status(rt: &HostRuntime, instance: &str, first: u8) -> io::Result<u8> {
     let mut status = first;
     for _ in 0..MOST_STEPS {
         if status == BETTER {
@@ -100,19 +95,14 @@ fn last_status(rt: &(impl AllocGlobal + Files), instance: &str, first: u8) -> io
 }
 
 /// Gives the season in the file `answer` to `prove`, whose answer takes its place.
-fn prove_answer(rt: &(impl AllocGlobal + Files), instance: &str) -> io::Result<u8> {
+fn prove_answer(rt: &HostRuntime, instance: &str) -> io::Result<u8> {
     let ended = run_words(rt, "prove", instance, "answer --conflicts all")?;
     fs::write(rt, "answer", ended.text())?;
     Ok(ended.status)
 }
 
 /// Shows what `bound` says of a certificate with this bound and this log behind it.
-fn show_bound(
-    rt: &(impl AllocGlobal + Files + Print),
-    instance: &str,
-    least: u64,
-    log: &str,
-) -> io::Result<()> {
+fn show_bound(rt: &HostRuntime, instance: &str, least: u64, log: &str) -> io::Result<()> {
     write_certificate(rt, least, log)?;
     let status = run_words(rt, "bound", instance, "certificate")?.status;
     let verdict = match status {
@@ -125,7 +115,7 @@ fn show_bound(
 }
 
 /// Writes a certificate with this bound and this log into the file `certificate`.
-fn write_certificate(rt: &(impl AllocGlobal + Files), least: u64, log: &str) -> io::Result<()> {
+fn write_certificate(rt: &HostRuntime, least: u64, log: &str) -> io::Result<()> {
     let certificate = format!(in rt.alloc(); "bound {least}\n{log}")?;
     fs::write(rt, "certificate", certificate.as_str())
 }

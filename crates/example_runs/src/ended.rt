@@ -4,7 +4,6 @@ use robin_io::{HostShelf, HostSink, MemShelf, MemSink, Shelf, put_all};
 use robin_run::run;
 use robin_watch::Unwatched;
 use std::alloc::{AllocError, Global};
-use std::rt::Files;
 use std::{fs, io};
 
 /// The room of a sink.
@@ -25,7 +24,7 @@ impl Ended {
     }
 
     /// Shows what the run wrote, the status, and what a person was told.
-    pub fn show(&self, rt: &impl Print) -> io::Result<()> {
+    pub fn show(&self, rt: &HostRuntime) -> io::Result<()> {
         print_bytes(rt, self.out.written());
         self.show_status(rt)?;
         print_bytes(rt, self.told.written());
@@ -33,13 +32,13 @@ impl Ended {
     }
 
     /// Shows the status.
-    pub fn show_status(&self, rt: &impl Print) -> io::Result<()> {
+    pub fn show_status(&self, rt: &HostRuntime) -> io::Result<()> {
         println!(rt; "status {}", self.status)
     }
 }
 
 /// Writes bytes to the transcript. What can't be written is missed there.
-fn print_bytes(rt: &impl Print, bytes: &[u8]) {
+fn print_bytes(rt: &HostRuntime, bytes: &[u8]) {
     let mut out = HostSink::new(io::writer(rt));
     let _ = put_all(&mut out, bytes);
 }
@@ -79,13 +78,13 @@ fn run_over(
 }
 
 /// Runs the command of a line over the files of the machine.
-pub fn run_line(rt: &(impl AllocGlobal + Files), line: &str) -> Result<Ended, AllocError> {
+pub fn run_line(rt: &HostRuntime, line: &str) -> Result<Ended, AllocError> {
     run_over(rt.alloc(), line, &mut HostShelf::new(rt), 0, ROOM)
 }
 
 /// Runs a command over the files of the machine: this word, an instance file, and other words behind it.
 pub fn run_words(
-    rt: &(impl AllocGlobal + Files),
+    rt: &HostRuntime,
     word: &str,
     instance: &str,
     others: &str,
@@ -96,14 +95,11 @@ pub fn run_words(
 
 /// Runs the command of a line on devices, `CALL` or `CALL PUT PIECE`: over a store in memory of the files that it names,
 /// which fails at this call, and into a sink that fails at this put. None has the number 0.
-pub fn run_failing(
-    rt: &(impl AllocGlobal + Files),
-    line: &str,
-    devices: &str,
-) -> Result<Ended, AllocError> {
+pub fn run_failing(rt: &HostRuntime, line: &str, devices: &str) -> Result<Ended, AllocError> {
     let (call, sink) = devices.split_once(' ').unwrap_or((devices, ""));
     let (put, piece) = sink.split_once(' ').unwrap_or((sink, ""));
-    let mut shelf = store_of(rt, line, number_in(call))?;
+    let mut shelf = MemShelf::new(rt.alloc());
+    fill(rt, line, number_in(call), &mut shelf)?;
     let piece = piece.parse::<usize>().unwrap_or(ROOM);
     run_over(rt.alloc(), line, &mut shelf, number_in(put), piece)
 }
@@ -113,18 +109,13 @@ pub fn number_in(text: &str) -> u64 {
     text.parse::<u64>().unwrap_or(0)
 }
 
-/// A store of the files of the machine that a line names, which fails at this call.
-fn store_of(
-    rt: &(impl AllocGlobal + Files),
-    line: &str,
-    call: u64,
-) -> Result<MemShelf, AllocError> {
-    let mut shelf = MemShelf::new(rt.alloc());
+/// Puts the files of the machine that a line names into a store, which fails at this call.
+fn fill(rt: &HostRuntime, line: &str, call: u64, shelf: &mut MemShelf) -> Result<(), AllocError> {
     shelf.fail_at(call)?;
     for word in line.split(' ') {
         if let Ok(bytes) = fs::read(rt, word) {
             shelf.add(word, &bytes)?;
         }
     }
-    Ok(shelf)
+    Ok(())
 }

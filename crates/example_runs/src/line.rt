@@ -4,11 +4,10 @@ use crate::ended::{Ended, run_failing, run_line};
 use crate::files::{cut, join, show_fronts};
 use crate::plans::show_plan;
 use std::alloc::AllocError;
-use std::rt::Files;
 use std::{fs, io};
 
 /// Follows a line.
-pub fn follow(rt: &(impl AllocGlobal + Files + Print), line: &str) -> io::Result<()> {
+pub fn follow(rt: &HostRuntime, line: &str) -> io::Result<()> {
     if line.starts_with("# ") {
         return println!(rt; "{line}");
     }
@@ -26,11 +25,7 @@ pub fn follow(rt: &(impl AllocGlobal + Files + Print), line: &str) -> io::Result
 
 /// Runs the command of a line, shows of its answer what is asked for, and writes its text into the file of this name, or
 /// into the file `answer`.
-fn follow_command(
-    rt: &(impl AllocGlobal + Files + Print),
-    asked: &str,
-    name: &str,
-) -> io::Result<()> {
+fn follow_command(rt: &HostRuntime, asked: &str, name: &str) -> io::Result<()> {
     let (name, otherwise) = match name {
         "" => ("answer", "all"),
         _ => (name, "0"),
@@ -42,7 +37,7 @@ fn follow_command(
 }
 
 /// Runs a command, over the files of the machine or on devices that fail.
-fn answer_to(rt: &(impl AllocGlobal + Files), command: &str) -> Result<Ended, AllocError> {
+fn answer_to(rt: &HostRuntime, command: &str) -> Result<Ended, AllocError> {
     match command.split_once(" @ ") {
         Some((command, devices)) => run_failing(rt, command, devices),
         None => run_line(rt, command),
@@ -50,12 +45,7 @@ fn answer_to(rt: &(impl AllocGlobal + Files), command: &str) -> Result<Ended, Al
 }
 
 /// Shows of an answer what is asked for.
-fn show(
-    rt: &(impl AllocGlobal + Files + Print),
-    command: &str,
-    ended: &Ended,
-    shown: &str,
-) -> io::Result<()> {
+fn show(rt: &HostRuntime, command: &str, ended: &Ended, shown: &str) -> io::Result<()> {
     match shown {
         "all" => return ended.show(rt),
         "true" => return show_judged(rt, command, ended, "true to its status"),
@@ -69,7 +59,7 @@ fn show(
 }
 
 /// Shows the first lines, so many.
-fn show_lines(rt: &impl Print, text: &str, count: &str) -> io::Result<()> {
+fn show_lines(rt: &HostRuntime, text: &str, count: &str) -> io::Result<()> {
     for line in text.split('\n').take(count.parse::<usize>().unwrap_or(0)) {
         println!(rt; "{line}")?;
     }
@@ -77,7 +67,7 @@ fn show_lines(rt: &impl Print, text: &str, count: &str) -> io::Result<()> {
 }
 
 /// Shows the lines that begin with a small letter. The other lines are of seasons, leagues and steps.
-fn show_words(rt: &impl Print, text: &str) -> io::Result<()> {
+fn show_words(rt: &HostRuntime, text: &str) -> io::Result<()> {
     for line in text.split('\n') {
         if let [b'a'..=b'z', ..] = line.as_bytes() {
             println!(rt; "{line}")?;

@@ -49,7 +49,7 @@ fn main(rt: HostRuntime) -> io::Result<()> {
 }
 
 /// Shows a season of two games of forty teams, not in order, with a score that needs 128 bits.
-fn show_scored(rt: &(impl AllocGlobal + Print)) -> io::Result<()> {
+fn show_scored(rt: &HostRuntime) -> io::Result<()> {
     let mut season = Schedule::new(rt.alloc());
     for (home, away, slot) in [(39, 0, 77), (1, 2, 0)] {
         season.push(Game {
