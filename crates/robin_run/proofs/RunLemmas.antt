@@ -1,8 +1,13 @@
 -- What holds of the runs of all commands.
-use Rattle.std.proofs.Common.{◌≡◌, ℕ, ◌+◌, ◌-◌, ◌≤◌, List, Option, Some, Result, Ok, Err, inl, inr, sym, subst, ◌∙◌, arith}
+use Rattle.std.proofs.Common.{◌≡◌, ℕ, ◌+◌, ◌-◌, ◌≤◌, List, Option, Some, Result, Ok, Err, inl, inr, refl, sym, subst, ◌∙◌, arith}
+use Rattle.std.specs.Borrow.{Bor}
 use Rattle.std.specs.Io.KnownBytes.{Appends, Keeps}
 use Rattle.robin_io.specs.Outside.{Output}
+use Rattle.command_line.specs.SeenWords.{command_of}
 use Rattle.command_line.specs.Words.{Command}
+use Rattle.command_line.specs.declared.goal.Goal.{Goal}
+use Rattle.command_line.specs.declared.words.Words.{Words}
+use Rattle.command_line.specs.declared.words.Words.TheVariants as words
 use Rattle.answers.specs.Reply.{Answer}
 use Rattle.answers.specs.SeenReply.{Answers, answer_of}
 use Rattle.answers.specs.Stages.{IsWritten, Outcome}
@@ -13,7 +18,7 @@ use Rattle.answers.specs.declared.status.Status.{Status}
 use Rattle.answers.specs.declared.status.Status.TheVariants.{Memory, WriteFault}
 use Rattle.robin_run.specs.Answer.{IsAnswer}
 use Rattle.robin_run.specs.Folded.{IsFolded, most_puts}
-use Rattle.robin_run.specs.Givens.{Gives, IsGiven, given_answer}
+use Rattle.robin_run.specs.Givens.{Gives, GivesReply, IsGiven, given_answer}
 use Rattle.robin_run.specs.Run.{Answered, NothingFails, Run, Writes}
 use Rattle.robin_run.specs.declared.given.Given.{Given}
 use Rattle.robin_run.proofs.EndLemmas.{written-memory}
@@ -107,3 +112,30 @@ writes-as run command status answered is ended no_memory no_fault =
       status_is = whole.0;
       written = whole.1;
     }
+
+-- a command that isn't `rows` gives a reply
+pub gives-reply : (command : Words)
+    → ((instance : Bor (List ℕ)) (goal : Goal) → command ≡ words.Rows instance goal → ⊥)
+    → GivesReply (command_of command)
+gives-reply (words.Rows instance goal) isnt = isnt instance goal refl
+gives-reply (words.Validate instance solution) isnt = tt
+gives-reply (words.Show instance solution most width) isnt = tt
+gives-reply (words.Demands instance list) isnt = tt
+gives-reply (words.Sheet instance solution) isnt = tt
+gives-reply (words.Check instance log) isnt = tt
+gives-reply (words.Solve instance budgets) isnt = tt
+gives-reply (words.SolveFrom instance solution budgets) isnt = tt
+gives-reply (words.Patterns instance conflicts) isnt = tt
+gives-reply (words.Explain instance conflicts) isnt = tt
+gives-reply (words.Part instance list) isnt = tt
+gives-reply (words.Prove instance solution floor conflicts) isnt = tt
+gives-reply (words.Bound instance log) isnt = tt
+gives-reply (words.Resume instance solution k conflicts) isnt = tt
+gives-reply (words.ResumeNear instance solution k budgets) isnt = tt
+gives-reply (words.Audit instance solution k log) isnt = tt
+gives-reply (words.Values instance values) isnt = tt
+gives-reply (words.Circle n) isnt = tt
+gives-reply (words.Make n seed) isnt = tt
+gives-reply (words.Trial n seed budgets) isnt = tt
+gives-reply (words.Help topic) isnt = tt
+gives-reply words.Version isnt = tt

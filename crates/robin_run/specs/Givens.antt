@@ -5,6 +5,8 @@ use Rattle.answers.specs.SeenReply.{MatchStage, answer_of}
 use Rattle.answers.specs.Stages.{Outcome}
 use Rattle.answers.specs.declared.reply.NoValue.{NoValue}
 use Rattle.answers.specs.declared.reply.Reply.{Reply}
+use Rattle.command_line.specs.Words.{Command}
+use Rattle.command_line.specs.Words.Command.{Rows}
 use Rattle.command_rows.specs.Rowed.{rows_answer}
 use Rattle.robin_run.specs.declared.given.Given.{Given}
 use Rattle.robin_run.specs.declared.given.Given.TheVariants as given
@@ -22,3 +24,8 @@ Gives outcome result = MatchStage result (λ one. outcome (given_answer one)) ou
 abbrev pub IsGiven : Result Reply NoValue → Result Given NoValue → Type 0
 IsGiven (Ok reply) result = result ≡ Ok (given.Answer reply)
 IsGiven (Err why) result = result ≡ Err why
+
+-- a command that gives a reply: any but `rows`
+abbrev pub GivesReply : Command → Type 0
+GivesReply (Rows instance goal) = ⊥
+GivesReply _ = Unit {0}

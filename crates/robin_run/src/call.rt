@@ -15,7 +15,7 @@ ghost use Rattle.robin_run.specs.Answer.{IsAnswer};
 ghost use Rattle.robin_run.specs.Commands.{KeepsPromises};
 ghost use Rattle.robin_run.specs.Ends.{EndsByWords};
 ghost use Rattle.robin_run.specs.Folded.{IsFolded, most_puts};
-ghost use Rattle.robin_run.specs.Givens.{Gives};
+ghost use Rattle.robin_run.specs.Givens.{Gives, GivesReply};
 ghost use Rattle.robin_run.specs.Run.{Answered, run_of, step_room};
 ghost use Rattle.robin_run.specs.Taken.{most_taken};
 
@@ -115,35 +115,53 @@ fn follow<S: Shelf, W: Listener>(
     ensures untouched { NeedsNoFile (Some (command_of command.entry)) → shelf.new ≡ shelf.old }
 {
     match command {
-        Words::Validate { instance, solution } => give(validate(alloc, shelf, instance, solution)),
+        Words::Rows { instance, goal } => rows_of_file(alloc, shelf, instance, goal),
+        _ => give(replied(alloc, command, shelf, watch, limit)),
+    }
+}
+
+/// Follows a command that gives a reply: any but `rows`.
+fn replied<S: Shelf, W: Listener>(
+    alloc: Global,
+    command: Words,
+    shelf: &mut S,
+    watch: &W,
+    limit: Option<u128>,
+) -> Result<Reply, NoValue>
+    requires teams { HasTeams (command_of command) }
+    requires replies { GivesReply (command_of command) }
+    ensures answer { Answers (IsAnswer (W.may_stop watch.now) limit (Some (command_of command.entry))
+        (store_between S.Shelf shelf.old shelf.new)) result }
+    ensures taken { S.taken shelf.new ≤ S.taken shelf.old + most_taken (Some (command_of command.entry)) }
+    ensures contents { (n : List ℕ) → S.contents shelf.new n ≡ S.contents shelf.old n }
+    ensures untouched { NeedsNoFile (Some (command_of command.entry)) → shelf.new ≡ shelf.old }
+{
+    match command {
+        Words::Validate { instance, solution } => validate(alloc, shelf, instance, solution),
         Words::Show {
             instance,
             solution,
             most,
             width,
-        } => give(show(alloc, shelf, instance, solution, Form::Text { most, width })),
-        Words::Demands { instance, list } => give(demands_of_list(alloc, shelf, instance, list)),
-        Words::Sheet { instance, solution } => {
-            give(show(alloc, shelf, instance, solution, Form::Csv))
-        }
-        Words::Check { instance, log } => give(check(alloc, shelf, instance, log, limit)),
-        Words::Solve { instance, budgets } => {
-            give(solve_file(alloc, shelf, instance, budgets, watch))
-        }
+        } => show(alloc, shelf, instance, solution, Form::Text { most, width }),
+        Words::Demands { instance, list } => demands_of_list(alloc, shelf, instance, list),
+        Words::Sheet { instance, solution } => show(alloc, shelf, instance, solution, Form::Csv),
+        Words::Check { instance, log } => check(alloc, shelf, instance, log, limit),
+        Words::Solve { instance, budgets } => solve_file(alloc, shelf, instance, budgets, watch),
         Words::SolveFrom {
             instance,
             solution,
             budgets,
-        } => give(solve_from_file(alloc, shelf, instance, solution, budgets, watch)),
+        } => solve_from_file(alloc, shelf, instance, solution, budgets, watch),
         Words::Patterns {
             instance,
             conflicts,
-        } => give(patterns_file(alloc, shelf, instance, conflicts)),
+        } => patterns_file(alloc, shelf, instance, conflicts),
         Words::Explain {
             instance,
             conflicts,
-        } => give(explain_file(alloc, shelf, instance, conflicts, watch)),
-        Words::Part { instance, list } => give(part_of_list(alloc, shelf, instance, list)),
+        } => explain_file(alloc, shelf, instance, conflicts, watch),
+        Words::Part { instance, list } => part_of_list(alloc, shelf, instance, list),
         Words::Prove {
             instance,
             solution,
@@ -151,9 +169,9 @@ fn follow<S: Shelf, W: Listener>(
             conflicts,
         } => {
             let aim = Aim { floor, conflicts };
-            give(prove_file(alloc, shelf, instance, solution, aim, watch))
+            prove_file(alloc, shelf, instance, solution, aim, watch)
         }
-        Words::Bound { instance, log } => give(bound_file(alloc, shelf, instance, log, limit)),
+        Words::Bound { instance, log } => bound_file(alloc, shelf, instance, log, limit),
         Words::Resume {
             instance,
             solution,
@@ -161,7 +179,7 @@ fn follow<S: Shelf, W: Listener>(
             conflicts,
         } => {
             let resumption = Resumption { k, conflicts };
-            give(resume_file(alloc, shelf, instance, solution, resumption, watch))
+            resume_file(alloc, shelf, instance, solution, resumption, watch)
         }
         Words::ResumeNear {
             instance,
@@ -170,7 +188,7 @@ fn follow<S: Shelf, W: Listener>(
             budgets,
         } => {
             let resumption = NearResumption { k, budgets };
-            give(resume_near_file(alloc, shelf, instance, solution, resumption, watch))
+            resume_near_file(alloc, shelf, instance, solution, resumption, watch)
         }
         Words::Audit {
             instance,
@@ -179,15 +197,15 @@ fn follow<S: Shelf, W: Listener>(
             log,
         } => {
             let audit = Audit { k, limit };
-            give(audit_file(alloc, shelf, instance, solution, audit, log))
+            audit_file(alloc, shelf, instance, solution, audit, log)
         }
-        Words::Rows { instance, goal } => rows_of_file(alloc, shelf, instance, goal),
-        Words::Values { instance, values } => give(values_file(alloc, shelf, instance, values)),
-        Words::Circle { n } => Ok(Given::Answer(circle(alloc, n)?)),
-        Words::Make { n, seed } => Ok(Given::Answer(make_league(alloc, n, seed)?)),
-        Words::Trial { n, seed, budgets } => give(trial(alloc, n, seed, budgets, watch)),
-        Words::Help { topic } => Ok(Given::Answer(help(alloc, topic)?)),
-        Words::Version => Ok(Given::Answer(version(alloc)?)),
+        Words::Rows { .. } => unreachable!(),
+        Words::Values { instance, values } => values_file(alloc, shelf, instance, values),
+        Words::Circle { n } => Ok(circle(alloc, n)?),
+        Words::Make { n, seed } => Ok(make_league(alloc, n, seed)?),
+        Words::Trial { n, seed, budgets } => trial(alloc, n, seed, budgets, watch),
+        Words::Help { topic } => Ok(help(alloc, topic)?),
+        Words::Version => Ok(version(alloc)?),
     }
 }
 
