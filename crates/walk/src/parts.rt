@@ -185,10 +185,7 @@ fn in_window(
     team: u16,
     slots: SlotSet,
 ) -> Result<Constraint, AllocError> {
-    let teams = team_set(alloc, &[team])?;
-    let mut class = constraint.class.copy()?;
-    set_teams(&mut class, teams);
-    let class = match class {
+    let class = match class_of_teams(alloc, constraint, &[team])? {
         Class::Ca3 {
             teams1,
             teams2,
@@ -263,10 +260,27 @@ fn of_teams(
     constraint: &Constraint,
     numbers: &[u16],
 ) -> Result<Constraint, AllocError> {
+    let class = class_of_teams(alloc, constraint, numbers)?;
+    Ok(Constraint {
+        hard: constraint.hard,
+        penalty: constraint.penalty,
+        class,
+    })
+}
+
+/// The class of a constraint, which speaks of these teams only.
+///
+/// # Errors
+/// Only where memory runs out.
+fn class_of_teams(
+    alloc: Global,
+    constraint: &Constraint,
+    numbers: &[u16],
+) -> Result<Class, AllocError> {
     let teams = team_set(alloc, numbers)?;
-    let mut part = constraint.copy()?;
-    set_teams(&mut part.class, teams);
-    Ok(part)
+    let mut class = constraint.class.copy()?;
+    set_teams(&mut class, teams);
+    Ok(class)
 }
 
 /// A set of these teams.
