@@ -1,5 +1,5 @@
 //! The grid of a season.
-ghost use Rattle.std.specs.Prelude.{◌≡◌, ◌<◌, ◌≤◌, ◌+◌, ◌++◌, min, IfOk, OnOk, length};
+ghost use Rattle.std.specs.Prelude.{◌≡◌, ◌<◌, ◌≤◌, ◌+◌, ◌++◌, codes, min, IfOk, OnOk, length};
 ghost use Rattle.std.specs.List.{All, flat_map};
 ghost use Rattle.league.specs.Counts.{slot_count};
 ghost use Rattle.robinx_names.specs.Names.{IsNames};
@@ -263,6 +263,27 @@ fn push_slot_names(alloc: Global, text: &mut Vec<u8>, season: &Season) -> Result
     Ok(())
 }
 
+/// Adds the grid of a season in its columns, for a page of this width.
+fn push_grid(
+    alloc: Global,
+    text: &mut Vec<u8>,
+    columns: Columns,
+    season: &Season,
+    width: u32,
+) -> Result<(), AllocError>
+    requires digits { columns.digits ≤ 2 }
+    requires names { IsNames season.now.cells.now.n season.now.names.now }
+    ensures { OnOk result (text.new.items ≡ text.old.items
+        ++ (grid.blocks_text columns (season_of season.now) width ++ (grid.legend season.now.phased
+        ++ (grid.slot_lines (season_of season.now) ++ (codes "\n" ++ grid.tallies columns (season_of season.now)))))) }
+{
+    push_blocks(alloc, text, columns, season, width)?;
+    push_legend(text, season.phased)?;
+    push_slot_names(alloc, text, season)?;
+    text.push(b'\n')?;
+    push_tallies(alloc, text, columns, season)
+}
+
 /// A season as a grid for a page of this width: a line a team and a column a slot, in blocks of slots where not all have
 /// room, then what its signs mean, the names of slots, and counts of each team.
 ///
@@ -274,10 +295,6 @@ pub fn season_grid(alloc: Global, season: &Season, width: u32) -> Result<Vec<u8>
 {
     let columns = columns_of(alloc, season)?;
     let mut text = Vec::new(alloc);
-    push_blocks(alloc, &mut text, columns, season, width)?;
-    push_legend(&mut text, season.phased)?;
-    push_slot_names(alloc, &mut text, season)?;
-    text.push(b'\n')?;
-    push_tallies(alloc, &mut text, columns, season)?;
+    push_grid(alloc, &mut text, columns, season, width)?;
     Ok(text)
 }

@@ -1,5 +1,5 @@
 //! The text of a season.
-ghost use Rattle.std.specs.Prelude.{◌≡◌, ◌≤◌, length, string_bytes, IfOk};
+ghost use Rattle.std.specs.Prelude.{◌≡◌, ◌≤◌, ◌++◌, length, string_bytes, IfOk};
 ghost use Rattle.std.specs.List.{All};
 ghost use Rattle.league.specs.Instance.{IsGame};
 ghost use Rattle.league.specs.Order.{IsInOrder};
@@ -87,12 +87,6 @@ fn shown_text(
 {
     let games = schedule.games();
     let cells = counted(alloc, league.n(), games)?;
-    let season = Season {
-        cells: &cells,
-        names,
-        phased: league.phased(),
-    };
-    let mut text = season_grid(alloc, &season, page.width)?;
     let labels = labels_of(alloc, names, league.n())?;
     let own = TeamGames::of(alloc, league.n(), games)?;
     let told = Told {
@@ -104,7 +98,31 @@ fn shown_text(
         own: &own,
         vectors: &assessed.vectors,
     };
-    let words = words_below(alloc, &told, assessed)?;
+    told_text(alloc, names, &told, assessed, page.width)
+}
+
+/// The grid of a season that is told, for a page of a width, with its words below.
+fn told_text(
+    alloc: Global,
+    names: &Names,
+    told: &Told<'_>,
+    assessed: &Assessment,
+    width: u32,
+) -> Result<Vec<u8>, AllocError>
+    requires names { IsNames told.now.league.now.n names.now }
+    requires told { IsTold told.now }
+    ensures { IfOk result (λ text. text.items
+        ≡ show.grid_of told.now.league.now names.now told.now.games.now width
+        ++ show.words_text told.now.league.now told.now.names.now told.now.most told.now.games.now
+        assessed.now.structure assessed.now.infeasibility assessed.now.objective assessed.now.feasible) }
+{
+    let season = Season {
+        cells: told.cells,
+        names,
+        phased: told.league.phased(),
+    };
+    let mut text = season_grid(alloc, &season, width)?;
+    let words = words_below(alloc, told, assessed)?;
     text.extend_from_slice(words.as_bytes())?;
     Ok(text)
 }

@@ -23,7 +23,6 @@ use Rattle.descent.specs.declared.score.Score.{Score}
 use Rattle.descent.specs.declared.walk.Walk.{Walk}
 use Rattle.descent.proofs.MoveLemmas.{all_moves-of_league}
 use Rattle.descent.proofs.ScoreLemmas.{lower-objective}
-use Rattle.descent.proofs.SettledLemmas.{IsSettled-of_all}
 use Rattle.descent.proofs.TrailLemmas.{IsTrail-more}
 
 -- ---- the same by equal numbers, scores and counts
@@ -163,7 +162,7 @@ full-at {R} tally kept step edit keeps full =
     (subst (λ (k : ℕ). IsFullEdit k (table_counts kept.table) step edit) keeps.teams full)
 
 -- where a whole round found none
-pub none-settled : {R : Type 0} (E : Ghosts R) (walk tried : Walk) (tally kept : Tallied R) (end : ℕ)
+pub none-round : {R : Type 0} (E : Ghosts R) (walk tried : Walk) (tally kept : Tallied R) (end : ℕ)
     → IsWalkOn tally.table.n (table_counts tally.table) walk → KeepsGames tally kept
     → tried ≡ record walk { edit = tried.edit } → end ≡ length walk.moves.items
     → AllWithin
@@ -172,15 +171,16 @@ pub none-settled : {R : Type 0} (E : Ghosts R) (walk tried : Walk) (tally kept :
     → AllWithin
     (λ step. IsLowering kept.table.n tried.board.phased (score_on E kept.weights) (table_counts kept.table) step → ⊥)
     tried.moves.items 0 walk.next
-    → IsSettled tally.table.n walk.board.phased (score_on E tally.weights) (table_counts tally.table)
-none-settled {R} E walk tried tally kept end is keeps same is_end first second =
+    → All
+    (λ step. IsLowering tally.table.n walk.board.phased (score_on E tally.weights) (table_counts tally.table) step → ⊥)
+    walk.moves.items
+none-round {R} E walk tried tally kept end is keeps same is_end first second =
     let n : ℕ = tally.table.n in
     let phased : Bool = walk.board.phased in
     let score : Counts → Score = score_on E tally.weights in
     let m : Counts = table_counts tally.table in
     let None_of : Swap → Type 0 = λ step. IsLowering n phased score m step → ⊥ in
-    IsSettled-of_all n phased score m walk.moves.items is.listed
-    (round-none None_of walk.moves.items walk.next
+    round-none None_of walk.moves.items walk.next
     (λ k d from below.
     let there : get_or tried.moves.items k d ≡ get_or walk.moves.items k d =
     ap (λ (w : Walk). get_or w.moves.items k d) same in
@@ -189,7 +189,41 @@ none-settled {R} E walk tried tally kept end is keeps same is_end first second =
     (get_or tried.moves.items k d) (sym keeps.teams) (sym (ap (λ (w : Walk). w.board.phased) same))
     (sym (ap (λ (w : List (Weighted R)). score_on E w) keeps.weights)) (sym keeps.counts)
     (subst (λ (s : Swap). IsLowering n phased score m s) (sym there) lowers)))
-    (subst (λ (last : ℕ). AllWithin None_of walk.moves.items walk.next last) is_end first))
+    (subst (λ (last : ℕ). AllWithin None_of walk.moves.items walk.next last) is_end first)
+
+-- what is found in the first part of a round, where its second part has none
+pub found-round : {R : Type 0} (E : Ghosts R) (walk tried : Walk) (tally kept : Tallied R) (end : ℕ) (edit : Edits)
+    (found : Option ℕ)
+    → IsWalkOn tally.table.n (table_counts tally.table) walk → KeepsGames tally kept
+    → tried ≡ record walk { edit = tried.edit } → end ≡ length walk.moves.items
+    → AllWithin
+    (λ step. IsLowering tally.table.n walk.board.phased (score_on E tally.weights) (table_counts tally.table) step → ⊥)
+    walk.moves.items walk.next end
+    → MatchOption found
+    (AllWithin
+    (λ step. IsLowering kept.table.n tried.board.phased (score_on E kept.weights) (table_counts kept.table) step → ⊥)
+    tried.moves.items 0 walk.next)
+    (IsFoundAt kept.table.n tried.board.phased (score_on E kept.weights) (table_counts kept.table) tried.moves.items edit)
+    → MatchOption found
+    (All
+    (λ step. IsLowering tally.table.n walk.board.phased (score_on E tally.weights) (table_counts tally.table) step → ⊥)
+    walk.moves.items)
+    (IsFoundAt tally.table.n walk.board.phased (score_on E tally.weights) (table_counts tally.table) walk.moves.items
+    edit)
+found-round {R} E walk tried tally kept end edit None is keeps same is_end first second =
+    none-round E walk tried tally kept end is keeps same is_end first second
+found-round {R} E walk tried tally kept end edit (Some place) is keeps same is_end first at =
+    let moves : tried.moves.items ≡ walk.moves.items = ap (λ (w : Walk). w.moves.items) same in
+    record {
+      within = subst (λ (l : List Swap). place < length l) moves at.within;
+      lowering = λ d. lowers-at E tally kept walk.board.phased tried.board.phased (get_or walk.moves.items place d) keeps
+          (ap (λ (w : Walk). w.board.phased) same)
+          (subst (λ (l : List Swap). IsLowering kept.table.n tried.board.phased (score_on E kept.weights)
+          (table_counts kept.table) (get_or l place d)) moves (at.lowering d));
+      full = λ d. full-at tally kept (get_or walk.moves.items place d) edit keeps
+          (subst (λ (l : List Swap). IsFullEdit kept.table.n (table_counts kept.table) (get_or l place d) edit) moves
+          (at.full d));
+    }
 
 -- no move lowers the least score of all
 pub least-settled : (n : ℕ) (phased : Bool) (score : Counts → Score) (m : Counts) → (score m).infeasibility ≡ 0

@@ -130,17 +130,40 @@ impl Walk {
         if Score::of(tally).is_least() {
             return Ok(None);
         }
+        let found = self.find_place(tally, steps, watch)?;
+        match found {
+            Some(place) => Ok(Some(self.take(place))),
+            None => Ok(None),
+        }
+    }
+
+    /// The place of the next move of one round of all moves, from where the walk stands, that is legal and lowers the
+    /// score. Then the edit is that of the move. The tally has the same games as before.
+    fn find_place<R: Rule<L>, L, W: Watch>(
+        &mut self,
+        tally: &mut Tally<R>,
+        steps: &mut Steps<L>,
+        watch: &W,
+    ) -> Result<Option<usize>, Ended>
+        requires walk { IsWalkOn tally.old.table.n (table_counts tally.old.table) self.old }
+        ensures keeps { KeepsGames tally.old tally.new }
+        ensures same { self.new ≡ record self.old { edit = self.new.edit } }
+        ensures edit_for { self.new.edit.n ≡ self.old.edit.n }
+        ensures found { IfOk result (λ found. MatchOption found
+            (All (λ step. IsLowering tally.old.table.n self.old.board.phased
+            (score_on R.Entries tally.old.weights) (table_counts tally.old.table) step → ⊥) self.old.moves.items)
+            (IsFoundAt tally.old.table.n self.old.board.phased (score_on R.Entries tally.old.weights)
+            (table_counts tally.old.table) self.old.moves.items self.new.edit)) }
+        ensures ended { OnErr result (W.may_stop watch.now) }
+    {
         let next = self.next;
         let end = self.moves.len();
         let behind = self.find_between(next, end, tally, steps, watch)?;
         match behind {
-            Some(place) => Ok(Some(self.take(place))),
+            Some(place) => Ok(Some(place)),
             None => {
                 let before = self.find_between(0, next, tally, steps, watch)?;
-                match before {
-                    Some(place) => Ok(Some(self.take(place))),
-                    None => Ok(None),
-                }
+                Ok(before)
             }
         }
     }

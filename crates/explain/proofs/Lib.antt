@@ -2,6 +2,10 @@
 pub mod PartLaws
 -- Contradictions that become smaller:
 pub mod StandingLemmas
+-- The numbers of members:
+mod MemberLemmas
+-- How many terms the rows of a league may have:
+mod LimitLemmas
 -- What is said at the end:
 pub mod ConflictLemmas
 -- What a log uses, and which constraints it names:

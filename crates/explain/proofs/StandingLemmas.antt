@@ -275,6 +275,10 @@ untried_at members place found is (m, (there, untried)) =
     let some : Member → Option Member = λ x. Some x in
     (there ∙ ap some (sym same), ap is_open same ∙ untried)
 
+-- it is one of them
+pub open_within : (members : List Member) (place : ℕ) → IsOpenAt members place → place < length members
+open_within members place (m, (there, untried)) = slice_get_within members place m there
+
 pub settled_so : (league : Instance) (limit : Option ℕ) (may_stop : Type 0) (members later : List Member) (log later_log : List Step)
     (place : ℕ) (m : Member) (case : Case) → IsExplained league limit may_stop members log → slice_get members place ≡ Some m
     → IsCase league limit may_stop (numbers_of members) m.number case

@@ -43,13 +43,11 @@ pub(crate) fn all_slots(alloc: Global, n: u16) -> Result<SlotSet, AllocError>
 fn ca3(alloc: Global, n: u16, side: Side) -> Result<Constraint, AllocError>
     ensures { IfOk result (λ constraint. constraint ≡ made.ca3_on n side) }
 {
-    let teams1 = all_teams(alloc, n)?;
-    let teams2 = all_teams(alloc, n)?;
     Ok(soft(
         5,
         Class::Ca3 {
-            teams1,
-            teams2,
+            teams1: all_teams(alloc, n)?,
+            teams2: all_teams(alloc, n)?,
             min: 0,
             max: 2,
             intp: 3,
@@ -63,9 +61,11 @@ fn br2(alloc: Global, n: u16, intp: u32) -> Result<Class, AllocError>
     requires { n ≤ 40 }
     ensures { IfOk result (λ made. made ≡ class.Br2 (teams_of n) intp (slots_of n)) }
 {
-    let teams = all_teams(alloc, n)?;
-    let slots = all_slots(alloc, n)?;
-    Ok(Class::Br2 { teams, intp, slots })
+    Ok(Class::Br2 {
+        teams: all_teams(alloc, n)?,
+        intp,
+        slots: all_slots(alloc, n)?,
+    })
 }
 
 /// Home games of each two teams that differ by at most two.
@@ -73,12 +73,10 @@ fn fa2(alloc: Global, n: u16) -> Result<Class, AllocError>
     requires { n ≤ 40 }
     ensures { IfOk result (λ made. made ≡ class.Fa2 (teams_of n) 2 (slots_of n)) }
 {
-    let teams = all_teams(alloc, n)?;
-    let slots = all_slots(alloc, n)?;
     Ok(Class::Fa2 {
-        teams,
+        teams: all_teams(alloc, n)?,
         intp: 2,
-        slots,
+        slots: all_slots(alloc, n)?,
     })
 }
 
@@ -86,8 +84,10 @@ fn fa2(alloc: Global, n: u16) -> Result<Class, AllocError>
 fn se1(alloc: Global, n: u16, min: u32) -> Result<Class, AllocError>
     ensures { IfOk result (λ made. made ≡ class.Se1 (teams_of n) min) }
 {
-    let teams = all_teams(alloc, n)?;
-    Ok(Class::Se1 { teams, min })
+    Ok(Class::Se1 {
+        teams: all_teams(alloc, n)?,
+        min,
+    })
 }
 
 /// Adds the constraints on games in a row.

@@ -77,18 +77,15 @@ fn ca2(alloc: Global, circle: &Circle, rng: &mut Pcg32) -> Result<Constraint, Al
     let third = next_draw(rng, n);
     let first_slot = next_draw(rng, n - 1);
     let penalty = 1 + u32::from(next_draw(rng, 10));
-    let teams1 = team_set(alloc, &[team])?;
-    let teams2 = team_set(alloc, &[second, third])?;
-    let slots = slots_from(alloc, first_slot, n / 2)?;
     Ok(soft(
         penalty,
         Class::Ca2 {
-            teams1,
-            teams2,
+            teams1: team_set(alloc, &[team])?,
+            teams2: team_set(alloc, &[second, third])?,
             min: 0,
             max: 1,
             side: Side::Both,
-            slots,
+            slots: slots_from(alloc, first_slot, n / 2)?,
         },
     ))
 }
@@ -105,19 +102,16 @@ fn ca4(alloc: Global, circle: &Circle, rng: &mut Pcg32) -> Result<Constraint, Al
     let fourth = next_draw(rng, n);
     let max = u32::from(next_draw(rng, 3));
     let penalty = 1 + u32::from(next_draw(rng, 10));
-    let teams1 = team_set(alloc, &[first, second])?;
-    let teams2 = team_set(alloc, &[third, fourth])?;
-    let slots = slots_from(alloc, 0, n - 1)?;
     Ok(soft(
         penalty,
         Class::Ca4 {
-            teams1,
-            teams2,
+            teams1: team_set(alloc, &[first, second])?,
+            teams2: team_set(alloc, &[third, fourth])?,
             min: 0,
             max,
             side: Side::H,
             span: Span::Global,
-            slots,
+            slots: slots_from(alloc, 0, n - 1)?,
         },
     ))
 }
@@ -151,15 +145,13 @@ fn br1(alloc: Global, circle: &Circle, rng: &mut Pcg32) -> Result<Constraint, Al
     let team = next_draw(rng, n);
     let intp = u32::from(next_draw(rng, 3));
     let penalty = 1 + u32::from(next_draw(rng, 10));
-    let teams = team_set(alloc, &[team])?;
-    let slots = all_slots(alloc, n)?;
     Ok(soft(
         penalty,
         Class::Br1 {
-            teams,
+            teams: team_set(alloc, &[team])?,
             intp,
             side: Side::Both,
-            slots,
+            slots: all_slots(alloc, n)?,
         },
     ))
 }

@@ -5,7 +5,7 @@ use league::{SlotId, TeamId};
 
 /// A move. It is legal where its own condition holds, which stands beside each kind, and its result is a double round
 /// robin of the same league. Each legal move undoes itself.
-#[derive(Clone, Copy, Debug, PartialEq, Eq)]
+#[derive(Clone, Copy)]
 pub enum Swap {
     /// For i < j: the venues of the two games between i and j are exchanged.
     HomeSwap { i: TeamId, j: TeamId },

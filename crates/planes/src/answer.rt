@@ -29,12 +29,38 @@ pub fn refute<W: Watch>(
     requires { AreWithin vars rows.now }
     ensures { IfOk result (λ found. IfSome found (IsRefutation rows.now vars)) }
 {
-    let mut desk = Desk::new(alloc, rows, vars, start)?;
-    if !search(alloc, &mut desk, vars, limit, watch)? {
+    let Some(log) = planned(alloc, rows, vars, start, limit, watch)? else {
         return Ok(None);
-    }
-    let log = desk.tools.take_steps(alloc);
+    };
     checked(alloc, rows, vars, log)
+}
+
+/// The steps that a search plans, if they end with the empty clause.
+fn planned<W: Watch>(
+    alloc: Global,
+    rows: &RowStore,
+    vars: u32,
+    start: Start,
+    limit: u64,
+    watch: &W,
+) -> Result<Option<Log>, AllocError> {
+    let mut desk = Desk::new(alloc, rows, vars, start)?;
+    planned_at(alloc, &mut desk, vars, limit, watch)
+}
+
+/// The steps that a search at a desk plans, if they end with the empty clause.
+fn planned_at<W: Watch>(
+    alloc: Global,
+    desk: &mut Desk,
+    vars: u32,
+    limit: u64,
+    watch: &W,
+) -> Result<Option<Log>, AllocError> {
+    if search(alloc, desk, vars, limit, watch)? {
+        Ok(Some(desk.tools.draft.take(alloc)))
+    } else {
+        Ok(None)
+    }
 }
 
 /// A log, if it is accepted over the rows and its text can be written.

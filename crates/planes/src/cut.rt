@@ -160,7 +160,23 @@ fn make_small(trail: &Trail, tools: &mut Tools, place: usize) -> Result<bool, Al
         return Ok(true);
     }
     let divisor = divided(tools.plane.counts.greatest(), LARGE);
-    let moment = Moment::Before { place };
+    if !weaken_open(trail, tools, Moment::Before { place }, divisor)? {
+        return Ok(false);
+    }
+    tools.plane.divide(&mut tools.draft, divisor)?;
+    Ok(!tools.plane.counts.is_too_large())
+}
+
+/// Weakens all of the row that wasn't false at a moment to multiples of the divisor. It says whether it could.
+///
+/// # Errors
+/// Only where memory runs out.
+pub(crate) fn weaken_open(
+    trail: &Trail,
+    tools: &mut Tools,
+    moment: Moment,
+    divisor: i64,
+) -> Result<bool, AllocError> {
     for k in 0..tools.plane.counts.len() {
         let Some((lit, coef)) = tools.plane.counts.term(k) else {
             continue;
@@ -170,8 +186,7 @@ fn make_small(trail: &Trail, tools: &mut Tools, place: usize) -> Result<bool, Al
             return Ok(false);
         }
     }
-    tools.plane.divide(&mut tools.draft, divisor)?;
-    Ok(!tools.plane.counts.is_too_large())
+    Ok(true)
 }
 
 /// Takes so much off what a literal counts, and says whether it could.

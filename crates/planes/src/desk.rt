@@ -39,10 +39,10 @@ impl Drop for Desk {
 
 /// With what a conflict is analyzed.
 pub(crate) struct Tools {
-    pub(crate) plane: Plane,
-    pub(crate) reason: Reason,
-    pub(crate) axioms: Axioms,
     pub(crate) units: Units,
+    pub(crate) plane: Plane,
+    pub(crate) axioms: Axioms,
+    pub(crate) reason: Reason,
     pub(crate) draft: Draft,
     pub(crate) lits: Vec<Lit>,
     pub(crate) levels: Vec<usize>,
@@ -69,24 +69,14 @@ impl Tools {
     /// Only where memory runs out.
     fn new(alloc: Global, rows: &RowStore, vars: u32, steps: Log) -> Result<Tools, AllocError> {
         Ok(Tools {
-            plane: Plane::new(alloc, vars)?,
-            reason: Reason::new(alloc),
-            axioms: Axioms::new(alloc, rows, vars)?,
             units: Units::new(alloc, vars)?,
+            plane: Plane::new(alloc, vars)?,
+            axioms: Axioms::new(alloc, rows, vars)?,
+            reason: Reason::new(alloc),
             draft: Draft::new(steps, rows.len() as u64),
             lits: Vec::new(alloc),
             levels: Vec::new(alloc),
         })
-    }
-
-    /// The planned steps, which are taken out.
-    pub(crate) fn take_steps(&mut self, alloc: Global) -> Log {
-        self.draft.take(alloc)
-    }
-
-    /// Plans the steps of what is true at level 0.
-    fn plan_units(&mut self, trail: &Trail, stock: &Stock) -> Result<(), AllocError> {
-        self.units.plan(trail, stock, &mut self.draft)
     }
 }
 
@@ -102,13 +92,8 @@ impl Desk {
         start: Start,
     ) -> Result<Desk, AllocError> {
         let Start { steps, derived } = start;
-        let mut stock = Stock::new(alloc, vars)?;
-        stock.add_all(rows)?;
-        for row in &derived {
-            stock.add_derived(row)?;
-        }
         Ok(Desk {
-            stock,
+            stock: Stock::new(alloc, rows, vars, &derived)?,
             trail: Trail::new(alloc, vars)?,
             order: Order::new(alloc, vars)?,
             restarts: Restarts::new(),
@@ -138,7 +123,8 @@ impl Desk {
     /// # Errors
     /// Only where memory runs out.
     pub(crate) fn plan_units(&mut self) -> Result<(), AllocError> {
-        self.tools.plan_units(&self.trail, &self.stock)
+        let tools = &mut self.tools;
+        tools.units.plan(&self.trail, &self.stock, &mut tools.draft)
     }
 
     /// Makes all true that rows force. The answer is the place of the first row in conflict, if there is one.

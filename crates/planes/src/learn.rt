@@ -7,7 +7,7 @@ use crate::desk::{Desk, Tools};
 use crate::plane::Plane;
 use crate::round::round;
 use crate::search::Met;
-use crate::stock::{Held, Stock};
+use crate::stock::Held;
 use crate::trail::{Standing, Trail};
 use rows::Term;
 use std::alloc::{AllocError, Global};
@@ -68,12 +68,10 @@ pub(crate) fn end_by_plane(alloc: Global, desk: &mut Desk) -> Result<Met, AllocE
 /// # Errors
 /// Only where memory runs out.
 pub(crate) fn end(desk: &mut Desk, row: usize) -> Result<(), AllocError> {
-    plan_end(&desk.trail, &desk.stock, &mut desk.tools, row)
-}
-
-/// Plans the empty clause.
-fn plan_end(trail: &Trail, stock: &Stock, tools: &mut Tools, row: usize) -> Result<(), AllocError> {
-    tools.units.plan_end(trail, stock, &mut tools.draft, row)
+    let tools = &mut desk.tools;
+    tools
+        .units
+        .plan_end(&desk.trail, &desk.stock, &mut tools.draft, row)
 }
 
 /// The row to which an analysis came, once its step is planned, if its coefficients are of 32 bits.

@@ -90,6 +90,24 @@ impl Reason {
             return Ok(divisor == 1);
         }
         self.parts.begin(self.number)?;
+        let could = self.weaken_open(trail, draft, axioms, point, divisor)?;
+        if !could || !self.weaken_false(draft, axioms, point.lit, divisor)? {
+            return Ok(false);
+        }
+        self.number = draft.plan_sum(&self.parts, as_divisor(divisor))?;
+        self.divide_all(divisor);
+        Ok(true)
+    }
+
+    /// Weakens all that wasn't false before the place to multiples of the divisor. It says whether it could.
+    fn weaken_open(
+        &mut self,
+        trail: &Trail,
+        draft: &mut Draft,
+        axioms: &mut Axioms,
+        point: &Point,
+        divisor: i64,
+    ) -> Result<bool, AllocError> {
         let moment = Moment::Before { place: point.place };
         for at in 0..self.terms.len() {
             let Some(Scaled { lit, coef }) = self.terms.get(at).copied() else {
@@ -100,11 +118,6 @@ impl Reason {
                 return Ok(false);
             }
         }
-        if !self.weaken_false(draft, axioms, point.lit, divisor)? {
-            return Ok(false);
-        }
-        self.number = draft.plan_sum(&self.parts, as_divisor(divisor))?;
-        self.divide_all(divisor);
         Ok(true)
     }
 

@@ -4,10 +4,9 @@ ghost use Rattle.std.specs.Prelude.{◌<◌, IfOk, IfSome};
 ghost use Rattle.planes.specs.Slack.{IsActive};
 ghost use Rattle.planes.specs.Trails.{level_of};
 
-use crate::cut::weaken;
+use crate::cut::{weaken, weaken_open};
 use crate::desk::Tools;
 use crate::numbers::rest;
-use crate::reason::open_rest;
 use crate::trail::{Moment, Standing, Trail};
 use std::alloc::AllocError;
 
@@ -97,16 +96,12 @@ fn weaken_all(
     level: usize,
     divisor: i64,
 ) -> Result<bool, AllocError> {
-    let moment = Moment::EndOf { level };
-    for k in 0..tools.plane.counts.len() {
-        let Some((lit, coef)) = tools.plane.counts.term(k) else {
-            continue;
-        };
-        let less = open_rest(trail, moment, lit, coef, divisor);
-        if less > 0 && !weaken(tools, lit, less)? {
-            return Ok(false);
-        }
-    }
+    let could = weaken_open(trail, tools, Moment::EndOf { level }, divisor)?;
+    Ok(could && weaken_spare(tools, divisor)?)
+}
+
+/// Weakens literals of the row to multiples of the divisor while the divided degree stays, and says whether it could.
+fn weaken_spare(tools: &mut Tools, divisor: i64) -> Result<bool, AllocError> {
     let mut spare = rest(tools.plane.degree.saturating_sub(1), divisor);
     for k in 0..tools.plane.counts.len() {
         let Some((lit, coef)) = tools.plane.counts.term(k) else {

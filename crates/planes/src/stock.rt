@@ -43,11 +43,23 @@ pub(crate) struct Stock {
 }
 
 impl Stock {
-    /// No row, for so many variables.
+    /// All rows of a store, which have the numbers from 1 on, and the rows of these steps, over so many variables.
     ///
     /// # Errors
     /// Only where memory runs out.
-    pub(crate) fn new(alloc: Global, vars: u32) -> Result<Stock, AllocError> {
+    pub(crate) fn new(
+        alloc: Global,
+        rows: &RowStore,
+        vars: u32,
+        derived: &[Derived],
+    ) -> Result<Stock, AllocError> {
+        let mut stock = Stock::empty(alloc, vars)?;
+        stock.add_all(rows, derived)?;
+        Ok(stock)
+    }
+
+    /// No row, for so many variables.
+    fn empty(alloc: Global, vars: u32) -> Result<Stock, AllocError> {
         let mut spots = Vec::new(alloc);
         for _variable in 0..vars {
             spots.push(Vec::new(alloc))?;
@@ -73,24 +85,21 @@ impl Stock {
         self.held.get(at)
     }
 
-    /// Adds all rows of a store, which have the numbers from 1 on.
-    ///
-    /// # Errors
-    /// Only where memory runs out.
-    pub(crate) fn add_all(&mut self, rows: &RowStore) -> Result<(), AllocError> {
+    /// Adds all rows of a store, and the rows of these steps.
+    fn add_all(&mut self, rows: &RowStore, derived: &[Derived]) -> Result<(), AllocError> {
         for place in 0..rows.len() {
             let mut terms = Vec::new(self.alloc);
             terms.extend_from_slice(rows.terms(place))?;
             self.add_given(terms, as_signed(rows.degree(place)), place as u64 + 1)?;
         }
+        for row in derived {
+            self.add_derived(row)?;
+        }
         Ok(())
     }
 
     /// Adds the row of a step.
-    ///
-    /// # Errors
-    /// Only where memory runs out.
-    pub(crate) fn add_derived(&mut self, row: &Derived) -> Result<(), AllocError> {
+    fn add_derived(&mut self, row: &Derived) -> Result<(), AllocError> {
         let mut terms = Vec::new(self.alloc);
         for lit in &row.lits {
             terms.push(Term { coef: 1, lit: *lit })?;
@@ -173,12 +182,14 @@ impl Stock {
     /// Only where memory runs out.
     pub(crate) fn drop_half(&mut self, trail: &Trail) -> Result<(), AllocError> {
         let mut order: Vec<(usize, usize)> = Vec::new(self.alloc);
-        for (at, held) in self.held.iter().enumerate() {
-            if held.levels > 2 && !held.terms.is_empty() {
-                order.push((held.levels, usize::MAX - at))?;
-            }
-        }
+        list_droppable(&self.held, &mut order)?;
         order.sort_unstable();
+        self.drop_worse(trail, &order);
+        self.list_anew()
+    }
+
+    /// Drops the second half of some rows, but for those that stand as reasons.
+    fn drop_worse(&mut self, trail: &Trail, order: &[(usize, usize)]) {
         for (rank, worse) in order.iter().enumerate() {
             let at = usize::MAX - worse.1;
             if rank >= order.len() / 2 && !is_reason(trail, at) {
@@ -186,7 +197,6 @@ impl Stock {
                 self.learnt = self.learnt.saturating_sub(1);
             }
         }
-        self.list_anew()
     }
 
     /// Lists anew where each literal stands.
@@ -199,6 +209,17 @@ impl Stock {
         }
         Ok(())
     }
+}
+
+/// Lists the rows of more than two levels: from how many each was learnt, and how far its place is below the greatest
+/// number.
+fn list_droppable(held: &[Held], order: &mut Vec<(usize, usize)>) -> Result<(), AllocError> {
+    for (at, row) in held.iter().enumerate() {
+        if row.levels > 2 && !row.terms.is_empty() {
+            order.push((row.levels, usize::MAX - at))?;
+        }
+    }
+    Ok(())
 }
 
 /// The place of a literal in the lists.

@@ -11,54 +11,54 @@ use league::{Game, PairSet, Side, SlotId, TeamId, TeamSet};
 /// Which games count.
 #[derive(Clone, Copy)]
 pub(crate) enum GameTest<'a> {
-    /// Those of a team.
+    /// The games of a team.
     Own {
         team: u16,
     },
-    /// Those of a team on a side in some slots.
+    /// The games of a team on a side in some slots.
     Ca1 {
         player: Player,
         slots: &'a [u16],
     },
-    /// Those of a team on a side against others in some slots.
+    /// The games of a team on a side against others in some slots.
     Ca2 {
         player: Player,
         others: &'a TeamSet,
         slots: &'a [u16],
     },
-    /// Those of a team on a side against others.
+    /// The games of a team on a side against others.
     Against {
         player: Player,
         others: &'a TeamSet,
     },
-    /// Those in the window of `intp` slots from a slot on.
+    /// The games in the window of `intp` slots from a slot on.
     Window {
         intp: u32,
         first: u16,
     },
-    /// Those of some teams with others in some slots.
+    /// The games of some teams with others in some slots.
     Ca4 {
         side: Side,
         teams1: &'a TeamSet,
         teams2: &'a TeamSet,
         slots: &'a [u16],
     },
-    /// Those of some meetings in some slots.
+    /// The games of some meetings in some slots.
     Ga1 {
         meetings: &'a PairSet,
         slots: &'a [u16],
     },
-    /// Those of a break at a slot.
+    /// The games of a break at a slot.
     Break {
         player: Player,
         slot: SlotId,
     },
-    /// Those that a team plays at home up to a slot.
+    /// The games that a team plays at home up to a slot.
     Fa2 {
         team: TeamId,
         slot: u16,
     },
-    /// Those that two teams play with each other.
+    /// The games that two teams play with each other.
     Se1 {
         first: TeamId,
         second: TeamId,

@@ -59,13 +59,14 @@ fn unwritten(rt: &HostRuntime, file: &str, reason: &str) -> Status {
 
 /// Runs the command, and brings its text to where it goes.
 pub(crate) fn run_kept(rt: &HostRuntime, line: &Line) -> Status {
-    let asked = line.out.or(line.log);
-    let Some(file) = asked else {
-        return run_into(rt, line, &mut HostSink::new(io::writer(rt)));
-    };
-    if read_words(&line.words).is_none() {
-        return run_into(rt, line, &mut HostSink::new(io::writer(rt)));
+    match line.out.or(line.log) {
+        Some(file) if read_words(&line.words).is_some() => run_checked(rt, line, file),
+        _ => run_into(rt, line, &mut HostSink::new(io::writer(rt))),
     }
+}
+
+/// Runs the command where the files that may get its text can be written.
+fn run_checked(rt: &HostRuntime, line: &Line, file: &str) -> Status {
     if let Some(status) = fault_before(rt, line.out) {
         return status;
     }
@@ -116,15 +117,19 @@ fn keep(rt: &HostRuntime, draft: Draft<HostRuntime>, file: &str, status: Status)
     }
 }
 
-/// Brings a text to standard output.
-fn show(rt: &HostRuntime, draft: Draft<HostRuntime>, status: Status) -> Status {
-    let mut out = HostSink::new(io::writer(rt));
-    let shown = match draft.name() {
-        Some(name) => hand_on(&mut HostShelf::new(rt), name, &mut out).is_ok(),
+/// Hands a text on that was written beside a file, and lets it go. Says whether it came whole.
+fn hand_over<K: Sink>(rt: &HostRuntime, draft: Draft<HostRuntime>, out: &mut K) -> bool {
+    let whole = match draft.name() {
+        Some(name) => hand_on(&mut HostShelf::new(rt), name, out).is_ok(),
         None => true,
     };
     draft.leave();
-    if shown {
+    whole
+}
+
+/// Brings a text to standard output.
+fn show(rt: &HostRuntime, draft: Draft<HostRuntime>, status: Status) -> Status {
+    if hand_over(rt, draft, &mut HostSink::new(io::writer(rt))) {
         return status;
     }
     let _told = eprint!(rt; "robin: the text could not be written whole\n");
@@ -134,12 +139,7 @@ fn show(rt: &HostRuntime, draft: Draft<HostRuntime>, status: Status) -> Status {
 /// Brings a text that was written beside one file into another one.
 fn carry(rt: &HostRuntime, draft: Draft<HostRuntime>, file: &str, status: Status) -> Status {
     let mut goal = Draft::new(rt, rt.alloc(), file);
-    let carried = match draft.name() {
-        Some(name) => hand_on(&mut HostShelf::new(rt), name, &mut goal).is_ok(),
-        None => true,
-    };
-    draft.leave();
-    if carried {
+    if hand_over(rt, draft, &mut goal) {
         return keep(rt, goal, file, status);
     }
     let reason = goal.reason();

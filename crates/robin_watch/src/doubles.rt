@@ -4,7 +4,7 @@ ghost use Rattle.std.specs.Prelude.{◌≡◌, nat_lt, if◌then◌else◌, true
 use crate::{News, Watch};
 
 /// Ends no run, and hears nothing.
-#[derive(Clone, Copy, Debug)]
+#[derive(Clone, Copy)]
 pub struct Unwatched;
 
 impl Watch for Unwatched {
@@ -24,7 +24,7 @@ impl Watch for Unwatched {
 }
 
 /// Ends a run at this turn.
-#[derive(Clone, Copy, Debug)]
+#[derive(Clone, Copy)]
 pub struct StopsAt {
     pub turns: u64,
 }

@@ -2,7 +2,7 @@
 ghost use Rattle.std.specs.Prelude.{◌≡◌, ℕ, Bool, true, Option, None, IfSome};
 
 /// What a run does for a while.
-#[derive(Clone, Copy, Debug, PartialEq, Eq)]
+#[derive(Clone, Copy)]
 pub enum Phase {
     /// Venues and breaks are counted.
     Counts,
@@ -17,7 +17,7 @@ pub enum Phase {
 }
 
 /// How far a run has come. A turn is a clause learnt or a move tried.
-#[derive(Clone, Copy, Debug, PartialEq, Eq)]
+#[derive(Clone, Copy)]
 pub enum News {
     /// A try begins. The first one, of which nothing is told, has the number 1.
     Try { number: u64 },

@@ -4,9 +4,21 @@ use Rattle.explain.specs.Attempts.{IsAttempt}
 use Rattle.explain.specs.declared.attempt.Attempt.{Attempt}
 use Rattle.explain.specs.Standings.{numbers_of}
 use Rattle.explain.specs.declared.cases.Case.TheVariants.{Without, Undecided}
-use Rattle.explain.proofs.StandingLemmas.{dropped-shorter, dropped_explained, narrowed-less, settled_so}
+use Rattle.explain.proofs.StandingLemmas.{dropped-shorter, dropped_explained, narrowed-less, open_within, settled_so}
 use Rattle.explain.proofs.StandingLemmas.{settled_so-less, untried_at}
 use Rattle.explain.proofs.smaller.tried.Goals as goal
+
+pub index-requires : goal.index-requires
+index-requires g c = open_within c.args.contradiction.members.items c.args.place c.requires.untried
+
+pub settle-requires : goal.settle-requires
+settle-requires g c = open_within c.args.contradiction.members.items c.args.place c.requires.untried
+
+pub settle-requires-in-Met : goal.settle-requires-in-Met
+settle-requires-in-Met g c = open_within c.args.contradiction.members.items c.args.place c.requires.untried
+
+pub settle-requires-in-Spent : goal.settle-requires-in-Spent
+settle-requires-in-Spent g c = open_within c.args.contradiction.members.items c.args.place c.requires.untried
 
 pub narrow-requires : goal.narrow-requires
 narrow-requires g c =

@@ -78,6 +78,12 @@ loop-kept-preserved g c =
       );
     }
 
+pub returns-clause-weights : goal.returns-clause-weights
+returns-clause-weights g c = c.loop-kept.invariant.weights
+
+pub returns-clause-ready : goal.returns-clause-ready
+returns-clause-ready g c = c.loop-kept.invariant.ready
+
 pub returns-clause-exact : goal.returns-clause-exact
 returns-clause-exact g c = λ m same was k d h. c.loop-kept.invariant.exact m same was k d (omega arith) (omega (arith, h, c.loop-kept-test.false, c.loop-kept.auto.rules))
 

@@ -1,4 +1,4 @@
-use Rattle.std.proofs.Common.{map, subst, sym, arith}
+use Rattle.std.proofs.Common.{◌≤◌, ℕ, map, ap, subst, sym, ◌∙◌, arith}
 use Rattle.std.specs.List.{All}
 use Rattle.rule_core.specs.Keys.{KeyList}
 use Rattle.tally.specs.Change.{games_of}
@@ -9,10 +9,37 @@ use Rattle.tally.specs.declared.weighted.Weighted.{Weighted}
 use Rattle.tally.proofs.CostLemmas.{both_kinds, used-again}
 use Rattle.tally.proofs.weigh.weigh_rules.Goals as goal
 
+pub weigh_kind-infeasibility-requires-clause-ready : goal.weigh_kind-infeasibility-requires-clause-ready
+weigh_kind-infeasibility-requires-clause-ready g c = c.requires.ready
+
+pub weigh_kind-infeasibility-requires-clause-reach : goal.weigh_kind-infeasibility-requires-clause-reach
+weigh_kind-infeasibility-requires-clause-reach g c = c.requires.reach
+
+pub weigh_kind-infeasibility-requires-clause-few : goal.weigh_kind-infeasibility-requires-clause-few
+weigh_kind-infeasibility-requires-clause-few g c = c.requires.few
+
+pub weigh_kind-infeasibility-requires-clause-clean : goal.weigh_kind-infeasibility-requires-clause-clean
+weigh_kind-infeasibility-requires-clause-clean g c = c.requires.clean
+
+pub weigh_kind-objective-requires-clause-reach : goal.weigh_kind-objective-requires-clause-reach
+weigh_kind-objective-requires-clause-reach g c =
+    subst (λ (reach : ℕ). All (λ k. g.R.Entries.reach_of k.weighted.rule ≤ reach) c.args.rules.now)
+    (sym c.weigh_kind-infeasibility.ensures.bench.reach) c.requires.reach
+
+pub weigh_kind-objective-requires-clause-few : goal.weigh_kind-objective-requires-clause-few
+weigh_kind-objective-requires-clause-few g c = c.requires.few
+
+pub weigh_kind-objective-requires-clause-clean : goal.weigh_kind-objective-requires-clause-clean
+weigh_kind-objective-requires-clause-clean g c =
+    ap (λ (s : KeyList). s.list) c.weigh_kind-infeasibility.ensures.bench.found ∙ c.requires.clean
+
 pub weigh_kind-objective-requires-clause-ready : goal.weigh_kind-objective-requires-clause-ready
 weigh_kind-objective-requires-clause-ready g c =
     subst (λ (s : KeyList). All (IsReady g.R.Entries c.args.change.now.table.n s.room) c.args.rules.now)
     (sym c.weigh_kind-infeasibility.ensures.bench.found) c.requires.ready
+
+pub returns-then-infeasibility-most-clause-bench : goal.returns-then-infeasibility-most-clause-bench
+returns-then-infeasibility-most-clause-bench g c = c.weigh_kind-infeasibility.ensures.bench
 
 pub returns-then-infeasibility-most-clause-weighed : goal.returns-then-infeasibility-most-clause-weighed
 returns-then-infeasibility-most-clause-weighed g c = λ m same exact. record {

@@ -1,4 +1,4 @@
-use Rattle.std.proofs.Common.{◌≡◌, ◌+◌, ◌≤◌, ◌++◌, ℕ, List, length, map, take, drop, ap, subst, sym, ◌∙◌, arith}
+use Rattle.std.proofs.Common.{◌≡◌, ◌+◌, ◌*◌, ◌≤◌, ◌++◌, ℕ, List, length, map, take, drop, ap, subst, sym, ◌∙◌, arith}
 use Rattle.std.proofs.lemmas.List.{take_at}
 use Rattle.std.specs.List.{All, sum}
 use Rattle.rule_core.specs.Table.{table_counts}
@@ -25,6 +25,16 @@ pub list_edit-listed-requires-clause-into_fit : goal.list_edit-listed-requires-c
 list_edit-listed-requires-clause-into_fit g c =
     subst (λ (n : ℕ). All (IsGame n) c.args.into.now)
     (sym (c.n.ensures.n ∙ ap (λ (t : Tallied g.row.R.Denot). t.table.n) c.self.view_is)) c.requires.into_fit
+
+pub list_edit-listed-requires-clause-room : goal.list_edit-listed-requires-clause-room
+list_edit-listed-requires-clause-room g c =
+    subst (λ (n : ℕ). All (λ l. 8 * n ≤ l.room) c.deref_mut.result.now) (sym c.n.ensures.n)
+    (subst (λ (lists : List GameRoom). All (λ l. 8 * c.self.inside.cells.n ≤ l.room) lists)
+    (sym c.deref_mut.ensures.value) c.self.invariant.room)
+
+pub exchange_games-requires-clause-room : goal.exchange_games-requires-clause-room
+exchange_games-requires-clause-room g c =
+    omega (arith, c.games-few.ensures.total, c.games-few.ensures.at_most, c.requires.as_many)
 
 pub exchange_games-requires-clause-out_fit : goal.exchange_games-requires-clause-out_fit
 exchange_games-requires-clause-out_fit g c =

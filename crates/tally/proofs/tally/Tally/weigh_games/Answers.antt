@@ -1,4 +1,4 @@
-use Rattle.std.proofs.Common.{◌≡◌, ℕ, ◌+◌, ◌^◌, ◌<◌, ◌≤◌, ◌++◌, List, length, take, drop, map, ap, subst, sym, ◌∙◌, arith}
+use Rattle.std.proofs.Common.{◌≡◌, ℕ, ◌+◌, ◌*◌, ◌^◌, ◌<◌, ◌≤◌, ◌++◌, List, length, take, drop, map, ap, subst, sym, ◌∙◌, arith}
 use Rattle.std.proofs.lemmas.List.{take_at}
 use Rattle.std.specs.List.{All, sum, sum_by}
 use Rattle.league.specs.Counts.{Counts, counts_of}
@@ -30,6 +30,16 @@ list_edit-listed-requires-clause-into_fit g c =
     subst (λ (n : ℕ). All (IsGame n) c.args.into.now)
     (sym (c.n.ensures.n ∙ ap (λ (t : Tallied g.row.R.Denot). t.table.n) c.self.view_is)) c.requires.into_fit
 
+pub list_edit-listed-requires-clause-room : goal.list_edit-listed-requires-clause-room
+list_edit-listed-requires-clause-room g c =
+    subst (λ (n : ℕ). All (λ l. 8 * n ≤ l.room) c.deref_mut.result.now) (sym c.n.ensures.n)
+    (subst (λ (lists : List GameRoom). All (λ l. 8 * c.self.inside.cells.n ≤ l.room) lists)
+    (sym c.deref_mut.ensures.value) c.self.invariant.room)
+
+pub exchange_games-requires-clause-room : goal.exchange_games-requires-clause-room
+exchange_games-requires-clause-room g c =
+    omega (arith, c.games-few.ensures.total, c.games-few.ensures.at_most, c.requires.as_many)
+
 pub exchange_games-requires-clause-out_fit : goal.exchange_games-requires-clause-out_fit
 exchange_games-requires-clause-out_fit g c =
     subst (λ (n : ℕ). All (IsGame n) c.args.out.now)
@@ -44,6 +54,16 @@ pub exchange_games-requires-clause-there : goal.exchange_games-requires-clause-t
 exchange_games-requires-clause-there g c i j s =
     subst (λ (t : Tallied g.row.R.Denot). counts_of c.args.out.now i j s ≤ table_counts t.table i j s) (sym c.self.view_is)
     (c.requires.there i j s)
+
+pub exchange_games-requires-2-clause-room : goal.exchange_games-requires-2-clause-room
+exchange_games-requires-2-clause-room g c =
+    omega (
+      arith,
+      c.games-few.ensures.total,
+      c.games-few.ensures.at_most,
+      c.exchange_games.ensures.total,
+      c.requires.as_many,
+    )
 
 pub exchange_games-requires-2-clause-out_fit : goal.exchange_games-requires-2-clause-out_fit
 exchange_games-requires-2-clause-out_fit g c =
