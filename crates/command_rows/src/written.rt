@@ -126,20 +126,6 @@ fn put_kept<K: Sink>(out: &mut K, waiting: &mut Waiting, kept: &Kept) -> Result<
     }
 }
 
-/// Writes the text of rows, and says how the run ends.
-fn write_kept<K: Sink>(out: &mut K, waiting: &mut Waiting, kept: &Kept) -> Status
-    requires none { waiting.old ≡ [] }
-    requires prices { HasPrices kept.now }
-    ensures written { IsWritten (rows_answer (system_kept kept.now)) result (output_between K.Sink out.old out.new) }
-    ensures reads_back { result ≡ Yes → opb_of (opb_text (system_kept kept.now)) ≡ Some (system_kept kept.now) }
-    ensures calls { K.calls out.new ≤ K.calls out.old + length (opb_text (system_kept kept.now)) }
-{
-    match put_kept(out, waiting, kept) {
-        Ok(()) => Status::Yes,
-        Err(_) => Status::WriteFault,
-    }
-}
-
 /// Writes the text of rows, which is made as it is written, and says how the run ends. It takes no memory.
 ///
 /// Where the run ends with `Yes`, the text was written whole and says these rows.
@@ -151,5 +137,8 @@ pub fn write_rows<K: Sink>(out: &mut K, ready: ReadyRows) -> Status
     ensures calls { K.calls out.new ≤ K.calls out.old + length (rows_answer ready).text }
 {
     let ReadyRows { kept, mut waiting } = ready;
-    write_kept(out, &mut waiting, &kept)
+    match put_kept(out, &mut waiting, &kept) {
+        Ok(()) => Status::Yes,
+        Err(_) => Status::WriteFault,
+    }
 }

@@ -36,7 +36,7 @@ fn found_from<W: Listener>(
     ensures { Answers (encodes league.now (IsFoundFrom league.now start.now budgets (W.may_stop watch.now))) result }
 {
     match solve_from(alloc, league, start, budgets, watch) {
-        Ok(solved) => Ok(found_reply(alloc, league, solved)?),
+        Ok(solved) => Ok(found_reply(alloc, league, &solved)?),
         Err(EncodeFault::TooLarge { terms }) => Err(NoValue::Refused(rows_refused(alloc, terms)?)),
         Err(EncodeFault::Mem) => Err(NoValue::Memory),
     }

@@ -58,7 +58,7 @@ fn solve_made<W: Listener>(
         (W.may_stop watch.now))) result }
 {
     match solve(alloc, league, budgets, watch) {
-        Ok(solved) => Ok(found_reply(alloc, league, seed, solved)?),
+        Ok(solved) => Ok(found_reply(alloc, league, seed, &solved)?),
         Err(EncodeFault::TooLarge { terms }) => Err(NoValue::Refused(rows_refused(alloc, terms)?)),
         Err(EncodeFault::Mem) => Err(NoValue::Memory),
     }
@@ -69,15 +69,15 @@ fn found_reply(
     alloc: Global,
     league: &League,
     seed: u64,
-    solved: Solved,
+    solved: &Solved,
 ) -> Result<Reply, AllocError>
-    requires solution { IsSomeSolution league.now solved }
-    requires schedule { HasSchedule solved }
-    ensures written { IfOk result (λ reply. IsTrialWritten seed league.now solved (answer_of reply)) }
+    requires solution { IsSomeSolution league.now solved.now }
+    requires schedule { HasSchedule solved.now }
+    ensures written { IfOk result (λ reply. IsTrialWritten seed league.now solved.now (answer_of reply)) }
     ensures instance { IsInstance league.now }
 {
     let _n = league.n();
-    match &solved {
+    match solved {
         Solved::Schedule {
             schedule,
             objective,

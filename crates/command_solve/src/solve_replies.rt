@@ -62,14 +62,14 @@ pub(crate) fn log_reply(alloc: Global, status: Status, log: &Log) -> Result<Repl
 pub(crate) fn found_reply(
     alloc: Global,
     league: &League,
-    solved: Solved,
+    solved: &Solved,
 ) -> Result<Reply, AllocError>
-    requires solution { IsSomeSolution league.now solved }
-    ensures written { IfOk result (λ reply. IsWritten league.now solved (answer_of reply)) }
+    requires solution { IsSomeSolution league.now solved.now }
+    ensures written { IfOk result (λ reply. IsWritten league.now solved.now (answer_of reply)) }
     ensures instance { IsInstance league.now }
 {
     let _n = league.n();
-    match &solved {
+    match solved {
         Solved::Schedule {
             schedule,
             objective,

@@ -25,7 +25,7 @@ fn found_of<W: Listener>(
     ensures { Answers (encodes league.now (IsFoundBy league.now budgets (W.may_stop watch.now))) result }
 {
     match solve(alloc, league, budgets, watch) {
-        Ok(solved) => Ok(found_reply(alloc, league, solved)?),
+        Ok(solved) => Ok(found_reply(alloc, league, &solved)?),
         Err(EncodeFault::TooLarge { terms }) => Err(NoValue::Refused(rows_refused(alloc, terms)?)),
         Err(EncodeFault::Mem) => Err(NoValue::Memory),
     }

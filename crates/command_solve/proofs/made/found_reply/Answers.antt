@@ -4,7 +4,7 @@ use Rattle.command_solve.proofs.made.found_reply.Goals as goal
 
 pub returns-clause-written : goal.returns-clause-written
 returns-clause-written c =
-    replied-trial c.args.seed c.args.league.now c.args.solved c.in-Schedule.schedule c.in-Schedule.objective
+    replied-trial c.args.seed c.args.league.now c.args.solved.now c.in-Schedule.schedule c.in-Schedule.objective
     c.in-Schedule.descent c.schedule_reply.result c.in-Schedule.is c.schedule_reply.ensures.status
     c.schedule_reply.ensures.text
 

@@ -8,9 +8,6 @@ use Rattle.explain.proofs.StandingLemmas.{dropped-shorter, dropped_explained, na
 use Rattle.explain.proofs.StandingLemmas.{settled_so-less, untried_at}
 use Rattle.explain.proofs.smaller.tried.Goals as goal
 
-pub index-requires : goal.index-requires
-index-requires g c = open_within c.args.contradiction.members.items c.args.place c.requires.untried
-
 pub settle-requires : goal.settle-requires
 settle-requires g c = open_within c.args.contradiction.members.items c.args.place c.requires.untried
 
