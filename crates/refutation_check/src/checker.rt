@@ -1,12 +1,15 @@
 //! A checker, to which the steps of a log are given one after another.
-ghost use Rattle.std.specs.Prelude.{◌≡◌, ◌≤◌, IfOk, OnOk, OnErr};
+ghost use Rattle.std.specs.Prelude.{◌≡◌, ◌≤◌, ◌+◌, IfOk, OnOk, OnErr};
 ghost use Rattle.std.specs.List.{All};
 ghost use Rattle.refutation.specs.Steps.Step.{Clause, Linear};
-ghost use Rattle.refutation_check.specs.Judged.{after_step, no_step_of, verdict_so_far};
+ghost use Rattle.refutation_check.specs.Forgotten as forgotten;
+ghost use Rattle.refutation_check.specs.Judged.{Judged, after_step, no_step_of, verdict_so_far};
 ghost use Rattle.refutation_check.specs.Room as rooms;
+ghost use Rattle.refutation_check.specs.Room.{steps_bytes};
 ghost use Rattle.refutation_check.specs.Within.{AreWithin};
 
 use crate::clause::ClauseStep;
+use crate::forgetting::let_row_go;
 use crate::judge::{judge_clause, judge_linear};
 use crate::keep::keep;
 use crate::kept::{KeptStep, Rejection, verdict_on};
@@ -143,6 +146,28 @@ impl<'a> Checker<'a> {
             &mut self.bytes,
             &mut self.rejection,
         )
+    }
+
+    /// Lets the row of the step at a place go, unless it is the last step, and says how many bytes the row took.
+    pub(crate) fn forget(&mut self, place: usize) -> u128
+        ensures state { self.new ≡ forgotten.forget place self.old }
+        ensures freed { steps_bytes self.new.steps + result ≡ steps_bytes self.old.steps }
+    {
+        let_row_go(self.alloc, &mut self.steps, &mut self.bytes, place)
+    }
+
+    /// Whether the rows of all steps keep to a limit, where those that were let go took so many bytes.
+    pub(crate) fn has_room_beside(&self, freed: u128, room: Option<u128>) -> bool
+        ensures { (full : Judged) → steps_bytes self.now.steps + freed ≡ steps_bytes full.steps
+            → result ≡ rooms.has_room room full }
+    {
+        match room {
+            None => true,
+            Some(most) => match self.bytes.checked_add(freed) {
+                Some(bytes) => bytes <= most,
+                None => false,
+            },
+        }
     }
 
     /// Whether the rows of the steps take no more bytes than there is room for: each step counts 64, and each term of its
