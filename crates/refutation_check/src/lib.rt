@@ -14,6 +14,8 @@ mod kept;
 mod laws;
 mod named;
 mod replay;
+mod row_hash;
+mod shared;
 mod trail;
 mod whole;
 
