@@ -8,27 +8,16 @@ ghost use Rattle.refutation_check.specs.Room.{steps_bytes};
 ghost use Rattle.refutation_check.specs.Within.{AreWithin};
 
 use crate::kept::{KeptStep, step_bytes};
-use refutation::StepKind;
-use std::alloc::Global;
 
 /// A step whose row is let go: the row without demand stands in its place.
-fn gone(alloc: Global) -> KeptStep
+fn gone() -> KeptStep
     ensures { judged_step result ≡ forgotten.gone }
 {
-    KeptStep::Narrow {
-        kind: StepKind::Clause,
-        terms: Vec::new(alloc),
-        degree: 0,
-    }
+    KeptStep::Tautology
 }
 
 /// Lets the row of the step at a place go, unless it is the last step, and says how many bytes the row took.
-pub(crate) fn let_row_go(
-    alloc: Global,
-    steps: &mut Vec<KeptStep>,
-    bytes: &mut u128,
-    place: usize,
-) -> u128
+pub(crate) fn let_row_go(steps: &mut Vec<KeptStep>, bytes: &mut u128, place: usize) -> u128
     requires counted { bytes.old ≡ steps_bytes (map judged_step steps.old.items) }
     ensures steps { map judged_step steps.new.items ≡ without place (map judged_step steps.old.items) }
     ensures counted { bytes.new ≡ steps_bytes (map judged_step steps.new.items) }
@@ -41,7 +30,7 @@ pub(crate) fn let_row_go(
         return 0;
     }
     let freed = step_bytes(&steps[place]) - 64;
-    steps[place] = gone(alloc);
+    steps[place] = gone();
     *bytes -= freed;
     freed
 }

@@ -16,6 +16,8 @@ mod last;
 mod laws;
 mod named;
 mod replay;
+mod row_hash;
+mod shared;
 mod trail;
 mod whole;
 
