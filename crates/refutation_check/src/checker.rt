@@ -183,10 +183,7 @@ impl<'a> Checker<'a> {
     pub fn has_room(&self, room: Option<u128>) -> bool
         ensures { result ≡ rooms.has_room room self.now }
     {
-        match room {
-            None => true,
-            Some(most) => self.bytes <= most,
-        }
+        self.has_room_beside(0, room)
     }
 
     /// The verdict on the steps that have come. It takes no memory.

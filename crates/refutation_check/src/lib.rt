@@ -14,6 +14,7 @@ mod keep;
 mod kept;
 mod last;
 mod laws;
+mod lean;
 mod named;
 mod replay;
 mod row_hash;

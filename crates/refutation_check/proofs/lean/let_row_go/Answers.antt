@@ -4,7 +4,7 @@ use Rattle.refutation_check.specs.Forgotten.{IsLean, NoneNames, without}
 use Rattle.refutation_check.specs.Judged.{Judged}
 use Rattle.refutation_check.specs.Room.{steps_bytes}
 use Rattle.refutation_check.proofs.LeanLemmas.{lean-forget}
-use Rattle.refutation_check.proofs.whole.let_row_go.Goals as goal
+use Rattle.refutation_check.proofs.lean.let_row_go.Goals as goal
 
 pub returns-clause-lean : goal.returns-clause-lean
 returns-clause-lean c = λ full later none is.

@@ -1,7 +1,7 @@
 use Rattle.std.proofs.Common.{◌≡◌, ◌+◌, drop}
 use Rattle.refutation_check.specs.Forgotten.{IsLean}
 use Rattle.refutation_check.specs.Judged.{Judged}
-use Rattle.refutation_check.proofs.whole.let_go.Given as goal
+use Rattle.refutation_check.proofs.lean.let_go.Given as goal
 
 abbrev pub invariant-loop-place : goal.invariant-loop-place
 invariant-loop-place l = record {

@@ -3,7 +3,7 @@ use Rattle.std.specs.Prelude.{IfSome}
 use Rattle.std.proofs.lemmas.Result.{on_ok_weaker}
 use Rattle.rows.specs.Rows.{Row}
 use Rattle.refutation_check.specs.Forgotten.{NoneNames}
-use Rattle.refutation_check.proofs.whole.let_go.Goals as goal
+use Rattle.refutation_check.proofs.lean.let_go.Goals as goal
 
 pub loop-place-preserved : goal.loop-place-preserved
 loop-place-preserved c =

@@ -3,7 +3,7 @@ use Rattle.std.specs.List.{fold}
 use Rattle.rows.specs.Rows.{Row}
 use Rattle.refutation_check.specs.Judged.{Judged, after_step}
 use Rattle.refutation_check.proofs.LeanLemmas.{fold-rows, lean-given}
-use Rattle.refutation_check.proofs.whole.judge_all.Goals as goal
+use Rattle.refutation_check.proofs.lean.judge_all.Goals as goal
 
 pub let_go-requires-clause-before : goal.let_go-requires-clause-before
 let_go-requires-clause-before c =

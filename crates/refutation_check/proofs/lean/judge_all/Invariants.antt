@@ -3,7 +3,7 @@ use Rattle.std.specs.List.{fold}
 use Rattle.refutation_check.specs.Forgotten.{IsLean}
 use Rattle.refutation_check.specs.Judged.{after_step}
 use Rattle.refutation_check.specs.Room.{has_room}
-use Rattle.refutation_check.proofs.whole.judge_all.Given as goal
+use Rattle.refutation_check.proofs.lean.judge_all.Given as goal
 
 abbrev pub invariant-loop-k : goal.invariant-loop-k
 invariant-loop-k l = record {
