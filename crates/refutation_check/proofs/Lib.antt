@@ -35,3 +35,11 @@ pub mod StateLemmas
 pub mod ReplayLemmas
 -- How many bytes steps take:
 pub mod RoomLemmas
+-- A step depends on the rows that it names alone:
+pub mod ForgetLemmas
+-- States with rows let go:
+pub mod LeanLemmas
+-- The last step that names a row:
+pub mod LastLemmas
+-- A step whose row is let go:
+pub mod GoneLemmas

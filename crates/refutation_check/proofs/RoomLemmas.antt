@@ -60,13 +60,3 @@ pub keeps_room : (rows : List Row) (vars : ℕ) (room : Option ℕ) (steps : Lis
 keeps_room rows vars room steps old new none at within =
     subst (λ (s : Judged). has_room room s ≡ true) (at ∙ ap (λ (s : Judged). fold after_step s steps) none)
     (within (ap (λ (s : Judged). has_room room s) none ∙ room_of_none rows vars room))
-
-pub passes_room : (rows : List Row) (vars : ℕ) (room : Option ℕ) (steps : List Step) (old new : Judged)
-    → old ≡ no_step_of rows vars → StopsInTime room old steps new
-    → has_room room new ≡ false → PassesRoom rows vars room steps
-passes_room rows vars room steps old new none some full = (
-  some.0,
-  some.1,
-  subst (λ (s : Judged). has_room room s ≡ false)
-      (some.2 ∙ ap (λ (s : Judged). fold after_step s (take some.0 steps)) none) full,
-)

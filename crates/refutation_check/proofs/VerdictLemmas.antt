@@ -56,7 +56,7 @@ judged-falsum rows vars (Linear parts divisor) =
 
 -- ---- one step more
 
-ends_false-push : (steps : List JudgedStep) (s : JudgedStep) → ends_false (steps ++ s ∷ []) ≡ is_falsum s
+pub ends_false-push : (steps : List JudgedStep) (s : JudgedStep) → ends_false (steps ++ s ∷ []) ≡ is_falsum s
 ends_false-push [] s = refl
 ends_false-push (t ∷ []) s = refl
 ends_false-push (t ∷ u ∷ steps) s = ends_false-push (u ∷ steps) s
@@ -71,7 +71,7 @@ ends_from-push : (came : List JudgedStep) (s : JudgedStep) (step : Step) (steps 
 ends_from-push came s step [] same = ends_false-push came s ∙ same
 ends_from-push came s step (next ∷ steps) same = refl
 
-rows-push : (rows : List Row) (came : List JudgedStep) (s : JudgedStep)
+pub rows-push : (rows : List Row) (came : List JudgedStep) (s : JudgedStep)
     → rows ++ map (λ j. j.row) (came ++ s ∷ []) ≡ (rows ++ map (λ j. j.row) came) ++ s.row ∷ []
 rows-push rows came s =
     ap (λ (more : List Row). rows ++ more) (map-append (λ j. j.row) came (s ∷ []))

@@ -4,13 +4,13 @@ use Rattle.rows.specs.Rows.{Row}
 use Rattle.rows.specs.Forcing.{with_forced}
 use Rattle.rows.specs.declared.partial.Value.{Value}
 use Rattle.rows.specs.Sums.{Totals}
-use Rattle.refutation.specs.Following.{is_in_conflict}
+use Rattle.refutation.specs.Following.{is_in_conflict, no_demand}
 use Rattle.refutation.specs.declared.step.StepKind.{StepKind}
 use Rattle.refutation.specs.declared.step.StepKind.TheVariants as kinds
 use Rattle.refutation.specs.declared.verdict.Cause.{Cause}
 use Rattle.refutation_check.specs.Judged.{Judged, JudgedStep}
 use Rattle.refutation_check.specs.declared.kept.KeptStep.{KeptStep}
-use Rattle.refutation_check.specs.declared.kept.KeptStep.TheVariants.{Narrow, Wide}
+use Rattle.refutation_check.specs.declared.kept.KeptStep.TheVariants.{Tautology, Clause, Narrow, Wide}
 use Rattle.refutation_check.specs.declared.kept.Rejection.{Rejection}
 use Rattle.refutation_check.specs.declared.replay.Turn.{Turn}
 use Rattle.refutation_check.specs.declared.replay.Turn.TheVariants.{Unknown, Conflict, Forced}
@@ -19,9 +19,11 @@ use Rattle.refutation_check.specs.declared.replay.Turn.TheVariants.{Unknown, Con
 
 -- a step that followed
 abbrev pub judged_step : KeptStep → JudgedStep
-judged_step (Narrow kind terms degree) =
-    record { row = record { terms = terms.items; degree = degree }; kind = kind }
-judged_step (Wide row) = record { row = row; kind = kinds.Linear }
+judged_step Tautology = record { row = no_demand; kind = kinds.Clause }
+judged_step (Clause terms) = record { row = record { terms = terms.items; degree = 1 }; kind = kinds.Clause }
+judged_step (Narrow terms degree) =
+    record { row = record { terms = terms.value.items; degree = degree }; kind = kinds.Linear }
+judged_step (Wide row) = record { row = row.value; kind = kinds.Linear }
 
 -- their rows
 abbrev pub step_rows : List KeptStep → List Row

@@ -13,4 +13,6 @@ pub mod Room
 -- How steps are kept, and what a hint and a part come to:
 pub mod Kept
 pub mod Named
+-- Which rows no later step names:
+pub mod Forgotten
 pub mod Checkers

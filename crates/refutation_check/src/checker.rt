@@ -1,15 +1,19 @@
 //! A checker, to which the steps of a log are given one after another.
-ghost use Rattle.std.specs.Prelude.{◌≡◌, ◌≤◌, IfOk, OnOk, OnErr};
+ghost use Rattle.std.specs.Prelude.{◌≡◌, ◌≤◌, ◌+◌, IfOk, OnOk, OnErr};
 ghost use Rattle.std.specs.List.{All};
 ghost use Rattle.refutation.specs.Steps.Step.{Clause, Linear};
-ghost use Rattle.refutation_check.specs.Judged.{after_step, no_step_of, verdict_so_far};
+ghost use Rattle.refutation_check.specs.Forgotten as forgotten;
+ghost use Rattle.refutation_check.specs.Judged.{Judged, after_step, no_step_of, verdict_so_far};
 ghost use Rattle.refutation_check.specs.Room as rooms;
+ghost use Rattle.refutation_check.specs.Room.{steps_bytes};
 ghost use Rattle.refutation_check.specs.Within.{AreWithin};
 
 use crate::clause::ClauseStep;
+use crate::forgetting::let_row_go;
 use crate::judge::{judge_clause, judge_linear};
 use crate::keep::keep;
 use crate::kept::{KeptStep, Rejection, verdict_on};
+use crate::shared::RowPlaces;
 use crate::trail::undo;
 use refutation::{Part, Verdict};
 use rows::{Lit, Partial, RowStore, Sum};
@@ -20,8 +24,10 @@ use std::marker::Model;
 /// each step that followed, and the number and the fault of the first step that didn't.
 ///
 /// A checker borrows the rows, and keeps each step as its row, in 8 bytes a term, or 32 where a number of a sum doesn't
-/// fit that. A step costs no more than its clause, or its parts, and the rows that it names, each read at most twice;
-/// the first sum that names a variable makes a table of 32 bytes for each variable up to it.
+/// fit that. Equal rows of sums are kept once, unless a row between them has taken the first one's place in a table by
+/// the rows' hashes, which takes 512 KiB from the first sum on. A step costs no more than its clause, or its parts, and
+/// the rows that it names, each read at most twice, and a sum's own row twice more; the first sum that names a variable
+/// makes a table of 32 bytes for each variable up to it.
 pub struct Checker<'a> {
     alloc: Global,
     rows: &'a RowStore,
@@ -31,6 +37,7 @@ pub struct Checker<'a> {
     partial: Partial,
     trail: Vec<u32>,
     sum: Sum,
+    places: RowPlaces,
     rejection: Option<Rejection>,
 }
 
@@ -45,6 +52,7 @@ impl Drop for Checker<'_> {
             partial: _,
             trail: _,
             sum: _,
+            places: _,
             rejection: _,
         } = self;
     }
@@ -81,6 +89,7 @@ impl<'a> Checker<'a> {
             partial,
             trail: Vec::new(alloc),
             sum: Sum::new(alloc),
+            places: RowPlaces::new(alloc),
             rejection: None,
         })
     }
@@ -137,23 +146,44 @@ impl<'a> Checker<'a> {
             &mut self.sum,
         );
         self.sum.clear();
+        let shared = self.places.share(found?, &self.steps)?;
         keep(
-            found?,
+            shared,
             &mut self.steps,
             &mut self.bytes,
             &mut self.rejection,
         )
     }
 
-    /// Whether the rows of the steps take no more bytes than there is room for: each step counts 64, and each term of its
-    /// row 8, or 32 where a number of a sum doesn't fit that. With None there is no limit. It takes no memory.
-    pub fn has_room(&self, room: Option<u128>) -> bool
-        ensures { result ≡ rooms.has_room room self.now }
+    /// Lets the row of the step at a place go, unless it is the last step, and says how many bytes the row took.
+    pub(crate) fn forget(&mut self, place: usize) -> u128
+        ensures state { self.new ≡ forgotten.forget place self.old }
+        ensures freed { steps_bytes self.new.steps + result ≡ steps_bytes self.old.steps }
+    {
+        let_row_go(&mut self.steps, &mut self.bytes, place)
+    }
+
+    /// Whether the rows of all steps keep to a limit, where those that were let go took so many bytes.
+    pub(crate) fn has_room_beside(&self, freed: u128, room: Option<u128>) -> bool
+        ensures { (full : Judged) → steps_bytes self.now.steps + freed ≡ steps_bytes full.steps
+            → result ≡ rooms.has_room room full }
     {
         match room {
             None => true,
-            Some(most) => self.bytes <= most,
+            Some(most) => match self.bytes.checked_add(freed) {
+                Some(bytes) => bytes <= most,
+                None => false,
+            },
         }
+    }
+
+    /// Whether the rows of the steps take no more bytes than there is room for: each step counts 64, and each term of
+    /// its row 8, or 32 where a number of a sum doesn't fit that. Of equal rows each counts, though they are kept once.
+    /// With None there is no limit. It takes no memory.
+    pub fn has_room(&self, room: Option<u128>) -> bool
+        ensures { result ≡ rooms.has_room room self.now }
+    {
+        self.has_room_beside(0, room)
     }
 
     /// The verdict on the steps that have come. It takes no memory.

@@ -15,7 +15,7 @@ use crate::adding::add_all;
 use crate::clause::{ClauseStep, deny, has_unknown};
 use crate::kept::{KeptStep, kept_sum};
 use crate::replay::replay;
-use refutation::{Cause, Part, StepKind};
+use refutation::{Cause, Part};
 use rows::{Partial, RowStore, Sum};
 use std::alloc::{AllocError, Global};
 
@@ -50,18 +50,10 @@ pub(crate) fn judge_clause(
     let mut terms = Vec::with_capacity(alloc, step.clause.len())?;
     if deny(step.clause, &mut terms, partial, trail)? {
         // A literal and its negation: the row without demand.
-        return Ok(Ok(KeptStep::Narrow {
-            kind: StepKind::Clause,
-            terms: Vec::new(alloc),
-            degree: 0,
-        }));
+        return Ok(Ok(KeptStep::Tautology));
     }
     match replay(rows, steps, step.hints, partial, trail)? {
-        None => Ok(Ok(KeptStep::Narrow {
-            kind: StepKind::Clause,
-            terms,
-            degree: 1,
-        })),
+        None => Ok(Ok(KeptStep::Clause { terms })),
         Some(cause) => Ok(Err(cause)),
     }
 }

@@ -9,24 +9,25 @@ ghost use Rattle.refutation_check.specs.Kept.{judged_step};
 ghost use Rattle.refutation_check.specs.Room as room;
 ghost use Rattle.refutation_check.specs.Room.{row_bytes};
 
-use refutation::{Cause, StepKind, Verdict};
+use refutation::{Cause, Verdict};
 use rows::{Term, WideRow, WideTerm};
 use std::alloc::{AllocError, Global};
+use std::rc::Rc;
 
-/// The row of a step that followed.
+/// The row of a step that followed. It takes 32 bytes, and what its terms take. Equal rows of sums may be one.
 #[derive(Drop)]
 pub(crate) enum KeptStep {
-    /// A clause, or a sum whose numbers fit. A term takes 8 bytes.
-    Narrow {
-        kind: StepKind,
-        terms: Vec<Term>,
-        degree: u64,
-    },
-    /// A sum with a number that doesn't fit.
-    Wide {
-        row: WideRow,
-    },
+    /// A clause with a literal and its negation: the row without demand.
+    Tautology,
+    /// A clause with no such pair: at least 1 of its literals. A term takes 8 bytes.
+    Clause { terms: Vec<Term> },
+    /// A sum whose numbers fit. A term takes 8 bytes.
+    Narrow { terms: Rc<Vec<Term>>, degree: u64 },
+    /// A sum with a number that doesn't fit. A term takes 32 bytes.
+    Wide { row: Rc<WideRow> },
 }
+
+const _: () = prove!(size_of::<KeptStep>() == 32);
 
 /// The number of the first step that doesn't follow, from 1, and why.
 #[derive(Clone, Copy)]
@@ -43,15 +44,12 @@ pub(crate) fn kept_sum(alloc: Global, row: WideRow) -> Result<KeptStep, AllocErr
     ensures { IfOk result (λ step. judged_step step ≡ record { row = row; kind = kinds.Linear }) }
 {
     if is_wide(row.terms(), row.degree()) {
+        let row = Rc::new(alloc, row)?;
         return Ok(KeptStep::Wide { row });
     }
-    let terms = narrowed(alloc, row.terms())?;
     let degree = row.degree() as u64;
-    Ok(KeptStep::Narrow {
-        kind: StepKind::Linear,
-        terms,
-        degree,
-    })
+    let terms = Rc::new(alloc, narrowed(alloc, row.terms())?)?;
+    Ok(KeptStep::Narrow { terms, degree })
 }
 
 /// Whether a coefficient is past 32 bits, or the degree past 64.
@@ -99,7 +97,9 @@ pub(crate) fn step_bytes(step: &KeptStep) -> u128
     ensures { result ≡ row_bytes (judged_step step.now).row }
 {
     match step {
-        KeptStep::Narrow { terms, degree, .. } => narrow_bytes(terms, *degree),
+        KeptStep::Tautology => narrow_bytes(&[], 0),
+        KeptStep::Clause { terms } => narrow_bytes(terms, 1),
+        KeptStep::Narrow { terms, degree } => narrow_bytes(terms, *degree),
         KeptStep::Wide { row } => wide_bytes(row.terms(), row.degree()),
     }
 }
@@ -166,11 +166,7 @@ fn is_falsum(step: &KeptStep) -> bool
     ensures { result ≡ judged.is_falsum (judged_step step.now) }
 {
     match step {
-        KeptStep::Narrow {
-            kind,
-            terms,
-            degree,
-        } => *kind == StepKind::Clause && terms.is_empty() && *degree == 1,
-        KeptStep::Wide { .. } => false,
+        KeptStep::Clause { terms } => terms.is_empty(),
+        KeptStep::Tautology | KeptStep::Narrow { .. } | KeptStep::Wide { .. } => false,
     }
 }

@@ -8,12 +8,17 @@ mod adding;
 mod checker;
 mod clause;
 mod fault;
+mod forgetting;
 mod judge;
 mod keep;
 mod kept;
+mod last;
 mod laws;
+mod lean;
 mod named;
 mod replay;
+mod row_hash;
+mod shared;
 mod trail;
 mod whole;
 

@@ -47,7 +47,12 @@ fn row_of_step(step: &KeptStep) -> NamedRow<'_>
     ensures wide { IsNotTooWide result }
 {
     match step {
-        KeptStep::Narrow { terms, degree, .. } => NamedRow::Narrow {
+        KeptStep::Tautology => NamedRow::Narrow {
+            terms: &[],
+            degree: 0,
+        },
+        KeptStep::Clause { terms } => NamedRow::Narrow { terms, degree: 1 },
+        KeptStep::Narrow { terms, degree } => NamedRow::Narrow {
             terms,
             degree: *degree,
         },

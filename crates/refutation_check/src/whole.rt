@@ -10,6 +10,8 @@ ghost use Rattle.refutation_check.specs.Within.{AreWithin};
 
 use crate::checker::Checker;
 use crate::fault::StepsFault;
+use crate::last::LastNames;
+use crate::lean::judge_all;
 use refutation::{Log, StepKind, Verdict};
 use rows::RowStore;
 use std::alloc::{AllocError, Global};
@@ -47,7 +49,8 @@ pub fn check_within(
     ensures full { IsErrOf result StepsFault.Full → PassesRoom rows.now vars room log.now }
 {
     let mut checker = Checker::new(alloc, rows, vars)?;
-    give_all(&mut checker, log, room)?;
+    let names = LastNames::of(alloc, rows.len(), log)?;
+    judge_all(&mut checker, log, &names, room)?;
     Ok(checker.verdict())
 }
 
@@ -72,7 +75,7 @@ pub fn give_all(checker: &mut Checker<'_>, log: &Log, room: Option<u128>) -> Res
 }
 
 /// Gives a checker the step at a place.
-fn give_step(checker: &mut Checker<'_>, log: &Log, k: usize) -> Result<(), AllocError>
+pub(crate) fn give_step(checker: &mut Checker<'_>, log: &Log, k: usize) -> Result<(), AllocError>
     requires { k < length log.now }
     ensures ok { OnOk result (IfSome (slice_get log.now k) (λ step. checker.new ≡ after_step checker.old step)) }
     ensures err { OnErr result (checker.new ≡ checker.old) }
