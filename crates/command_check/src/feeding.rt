@@ -15,6 +15,9 @@ use std::alloc::Global;
 /// The most bytes of a log.
 pub const LOG_LIMIT: usize = 268_435_456;
 
+/// How many bytes of a log one take asks for at most.
+const PIECE: usize = 8_192;
+
 /// Why the log of a file isn't judged to its end.
 #[derive(Clone, Copy, Debug, PartialEq, Eq)]
 pub(crate) enum FeedFault {
@@ -76,18 +79,15 @@ fn check_piece(
 
 /// Reads the file of a log, judges its steps while they take no more bytes than the limit, and says how many they were.
 ///
-/// The file is taken in pieces of at most the room's length, so that of its text no more than a piece and an unfinished
-/// line is held at a time.
+/// The file is taken in pieces, so that of its text no more than a piece and an unfinished line is held at a time.
 pub(crate) fn check_file<S: Shelf>(
     alloc: Global,
     shelf: &mut S,
     name: &str,
-    room: &mut [u8],
     feed: &mut LogFeed,
     checker: &mut Checker,
     limit: Option<u128>,
 ) -> Result<usize, FeedFault>
-    requires room { 0 < length room.old }
     requires start { feed.old ≡ start }
     ensures checked { IfOk result
         (ChecksFile (S.contents shelf.old name.now) feed.old checker.old feed.new checker.new) }
@@ -104,11 +104,12 @@ pub(crate) fn check_file<S: Shelf>(
     ensures taken { S.taken shelf.new ≤ S.taken shelf.old + (most_log_bytes + 1) }
     ensures contents { (n : List ℕ) → S.contents shelf.new n ≡ S.contents shelf.old n }
 {
+    let mut room = [0u8; PIECE];
     shelf.start(name)?;
     let mut bytes = 0;
     let mut steps = 0;
     'pieces: loop {
-        let most = room.len().min(LOG_LIMIT + 1 - bytes);
+        let most = PIECE.min(LOG_LIMIT + 1 - bytes);
         let count = shelf.take(name, &mut room[..most])?;
         if count == 0 {
             return Ok(steps);

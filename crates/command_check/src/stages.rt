@@ -1,5 +1,5 @@
 //! The stages of `check`.
-ghost use Rattle.std.specs.Prelude.{◌≡◌, ◌+◌, ◌<◌, ◌≤◌, ℕ, List, Option, true, false, IfOk, IsErrOf, OnOk, codes, vec_len};
+ghost use Rattle.std.specs.Prelude.{◌≡◌, ◌+◌, ◌<◌, ◌≤◌, ℕ, List, Option, true, false, IsErrOf, OnOk, codes};
 ghost use Rattle.robin_io.specs.Outside.{store_between};
 ghost use Rattle.rows.specs.Rows.{Row};
 ghost use Rattle.encoding.specs.Encoding.{encoding_size, rows_of};
@@ -28,7 +28,7 @@ use refutation::{LogFault, LogFeed};
 use refutation_check::Checker;
 use robin_io::Shelf;
 use robinx_read::INSTANCE_LIMIT;
-use std::alloc::{AllocError, Global};
+use std::alloc::Global;
 
 /// The rows of a league, or why there are none.
 fn encoding_of(alloc: Global, league: &League) -> Result<Encoding, NoValue>
@@ -41,16 +41,6 @@ fn encoding_of(alloc: Global, league: &League) -> Result<Encoding, NoValue>
         Err(EncodeFault::TooLarge { terms }) => Err(NoValue::Refused(rows_refused(alloc, terms)?)),
         Err(EncodeFault::Mem) => Err(NoValue::Memory),
     }
-}
-
-/// How many bytes of a log one take asks for at most.
-const PIECE: usize = 65_536;
-
-/// Room for so many bytes.
-fn room_of(alloc: Global, len: usize) -> Result<Vec<u8>, AllocError>
-    ensures { IfOk result (λ room. vec_len room ≡ len) }
-{
-    vec![in alloc; 0u8; len]
 }
 
 /// Reads the log and judges its steps, or answers why it can't be read.
@@ -73,8 +63,7 @@ fn log_in<S: Shelf>(
     ensures taken { S.taken shelf.new ≤ S.taken shelf.old + (most_log_bytes + 1) }
     ensures contents { (n : List ℕ) → S.contents shelf.new n ≡ S.contents shelf.old n }
 {
-    let mut room = room_of(alloc, PIECE)?;
-    match check_file(alloc, shelf, name, &mut room, feed, checker, limit) {
+    match check_file(alloc, shelf, name, feed, checker, limit) {
         Ok(steps) => Ok(steps),
         Err(FeedFault::Failed) => Err(NoValue::Refused(unreadable(
             alloc,
