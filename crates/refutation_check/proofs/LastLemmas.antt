@@ -1,15 +1,14 @@
 -- The last step of a log that names a row.
-use Rattle.std.proofs.Common.{◌≡◌, ◌≢◌, ◌⊎◌, ℕ, zero, suc, ◌+◌, ◌-◌, ◌<◌, ◌≤◌, Bool, true, false, List, [], ◌∷◌, ◌++◌}
-use Rattle.std.proofs.Common.{drop, get_or, length, map, take, slice_get, length-take, Option, Some, None}
-use Rattle.std.proofs.Common.{inl, inr, refl, arith, ap, sym, subst, ◌∙◌}
-use Rattle.std.specs.List.{All}
+use Rattle.std.proofs.Common.{◌≡◌, ◌≢◌, ◌⊎◌, ℕ, ◌+◌, ◌<◌, ◌≤◌, List, []}
+use Rattle.std.proofs.Common.{get_or, length, take, slice_get, length-take, Option, Some, None}
+use Rattle.std.proofs.Common.{inl, inr, arith, ap, sym, subst, ◌∙◌}
 use Rattle.std.specs.Option.{option_map_or}
 use Rattle.std.proofs.lemmas.Bool.{cases_lt}
 use Rattle.std.proofs.lemmas.List.{get_or-drop, length-drop, take_all, take_more}
 use Rattle.std.proofs.lemmas.List.Elements.{All-push}
 use Rattle.std.proofs.lemmas.Option.{get_or_from_slice_get, none-some, slice_get-get_or, slice_get_within}
 use Rattle.refutation.specs.Steps.{Step}
-use Rattle.refutation_check.specs.Forgotten.{AreLast, AreLastUpTo, Lacks, NoneNames, names, names_at}
+use Rattle.refutation_check.specs.Forgotten.{AreLast, AreLastUpTo, Lacks, names, names_at}
 
 -- no step is noted yet
 pub last-none : (before : ℕ) (log : List Step) (last : List ℕ) → AreLastUpTo before log 0 last

@@ -1,9 +1,9 @@
 -- A state with rows let go, and the full one: they go on alike.
-use Rattle.std.proofs.Common.{◌≡◌, ◌≢◌, ◌⊎◌, ℕ, zero, suc, ◌+◌, ◌-◌, ◌<◌, ◌≤◌, Bool, true, false, List, [], ◌∷◌, ◌++◌}
-use Rattle.std.proofs.Common.{drop, get_or, length, length-append, map, take, slice_get, slice_set, sum_by, Option, Some, None}
-use Rattle.std.proofs.Common.{inl, inr, refl, arith, ap, sym, subst, ◌∙◌}
+use Rattle.std.proofs.Common.{◌≡◌, ◌≢◌, ℕ, zero, suc, ◌+◌, ◌<◌, Bool, true, false, List, [], ◌∷◌, ◌++◌}
+use Rattle.std.proofs.Common.{drop, get_or, length, length-append, map, take, slice_get, slice_set, Option, Some, None}
+use Rattle.std.proofs.Common.{refl, arith, ap, sym, subst, ◌∙◌}
 use Rattle.std.specs.Prelude.{Result, Ok, Err, IfSome, nat_lt, if◌then◌else◌}
-use Rattle.std.specs.List.{All, fold}
+use Rattle.std.specs.List.{fold}
 use Rattle.std.proofs.lemmas.Bool.Decides.{nat_tests}
 use Rattle.std.proofs.lemmas.List.{drop_more, length-map}
 use Rattle.std.proofs.lemmas.List.Elements.{All-head, All-tail, All-weaker}
@@ -16,9 +16,8 @@ use Rattle.refutation.specs.Following.{judged, row_numbered}
 use Rattle.refutation.specs.Verdict.{verdict_by}
 use Rattle.refutation.specs.declared.step.StepKind.{StepKind}
 use Rattle.refutation.specs.declared.verdict.Cause.{Cause}
-use Rattle.refutation.specs.declared.verdict.Verdict.{Verdict}
 use Rattle.refutation_check.specs.Forgotten.{IsLean, NamesSame, NoneNames, forget, gone, names, without}
-use Rattle.refutation_check.specs.Judged.{Judged, JudgedStep, after_step, ends_false, is_falsum, rows_of, verdict_so_far, with_step}
+use Rattle.refutation_check.specs.Judged.{Judged, JudgedStep, after_step, ends_false, rows_of, verdict_so_far, with_step}
 use Rattle.refutation_check.specs.Room.{row_bytes, steps_bytes}
 use Rattle.refutation_check.proofs.ForgetLemmas.{judged-same}
 use Rattle.refutation_check.proofs.VerdictLemmas.{ends_false-push, rows-push}

@@ -13,7 +13,7 @@ use Rattle.rows.specs.declared.lit.Term.{Term}
 use Rattle.refutation.specs.Steps.{Step}
 use Rattle.refutation_check.specs.Judged.{Judged, JudgedStep, after_step, no_step_of}
 use Rattle.refutation_check.specs.Kept.{judged_step}
-use Rattle.refutation_check.specs.Room.{KeepsRoom, PassesRoom, StopsInTime, has_room, has_wide, row_bytes, steps_bytes}
+use Rattle.refutation_check.specs.Room.{KeepsRoom, has_room, has_wide, row_bytes, steps_bytes}
 use Rattle.refutation_check.specs.declared.kept.KeptStep.{KeptStep}
 
 -- one more term that has 32 bits

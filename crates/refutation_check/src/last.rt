@@ -1,4 +1,4 @@
-//! The last step of a log that names each step's row.
+//! The last step of a log that names the row of each step.
 ghost use Rattle.std.specs.Prelude.{◌≡◌, ◌<◌, ◌≤◌, ◌+◌, ◌⊎◌, ℕ, List, drop, get_or, length, slice_get, IfOk, IfSome, Some};
 ghost use Rattle.refutation.specs.Steps.{Step};
 ghost use Rattle.refutation_check.specs.Forgotten.{AreLast, AreLastUpTo, Lacks, NoneNames, names_at};
@@ -6,17 +6,17 @@ ghost use Rattle.refutation_check.specs.Forgotten.{AreLast, AreLastUpTo, Lacks, 
 use refutation::{Log, StepKind};
 use std::alloc::{AllocError, Global};
 
-/// The places of the last steps of a log that name its steps' rows.
+/// For each step of a log, the place of the last step that names its row.
 #[derive(Drop)]
 pub(crate) struct LastNames {
-    /// How many rows stand before those of the steps.
+    /// How many rows stand in front of those of the steps.
     before: usize,
-    /// For each step's row the place of the last step that names it, or 0 where none does.
+    /// The places, by the places of the steps: 0 where no step names the row.
     last: Vec<usize>,
 }
 
 impl LastNames {
-    /// Those of a log over so many rows. It takes 8 bytes a step.
+    /// The last names of a log over so many rows. The table takes 8 bytes a step.
     ///
     /// # Errors
     /// Only where memory runs out.

@@ -1,9 +1,8 @@
-use Rattle.std.proofs.Common.{◌≡◌, ◌+◌, ◌-◌, ◌<◌, ◌≤◌, length, map, get_or, slice_set, arith, ap, sym, ◌∙◌}
-use Rattle.refutation_check.specs.Forgotten.{without}
+use Rattle.std.proofs.Common.{◌≡◌, ◌<◌, length, get_or, arith, ap, sym, ◌∙◌}
 use Rattle.refutation_check.specs.Kept.{judged_step}
-use Rattle.refutation_check.specs.Room.{row_bytes, steps_bytes}
+use Rattle.refutation_check.specs.Room.{row_bytes}
 use Rattle.refutation_check.specs.declared.kept.KeptStep.{KeptStep}
-use Rattle.refutation_check.proofs.GoneLemmas.{bytes_least, gone-bytes, gone-steps, gone-within, stays-steps}
+use Rattle.refutation_check.proofs.GoneLemmas.{bytes_least, gone-bytes, gone-steps, gone-within}
 use Rattle.refutation_check.proofs.forgetting.let_row_go.Goals as goal
 
 pub overflow_sub-freed : goal.overflow_sub-freed

@@ -1,4 +1,4 @@
-use Rattle.std.proofs.Common.{◌≡◌, ◌⊎◌, ◌+◌, ◌<◌, ℕ, List, get_or, length, take, inl, inr, arith, subst, ◌∙◌}
+use Rattle.std.proofs.Common.{◌+◌, ◌<◌, ℕ, List, get_or, inl, inr, arith, subst, ◌∙◌}
 use Rattle.std.proofs.lemmas.List.{take_all}
 use Rattle.refutation_check.specs.Forgotten.{Lacks, names_at}
 use Rattle.refutation_check.proofs.LastLemmas.{lacks-more}

@@ -1,4 +1,4 @@
-use Rattle.std.proofs.Common.{◌≡◌, ◌+◌, ◌≤◌, List, arith, drop, length, take, sym, ap, ◌∙◌}
+use Rattle.std.proofs.Common.{◌+◌, List, arith, length, take, sym, ap, ◌∙◌}
 use Rattle.std.specs.List.{fold}
 use Rattle.rows.specs.Rows.{Row}
 use Rattle.refutation_check.specs.Judged.{Judged, after_step}

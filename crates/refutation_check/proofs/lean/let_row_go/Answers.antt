@@ -1,4 +1,4 @@
-use Rattle.std.proofs.Common.{◌≡◌, ◌+◌, ℕ, List, Option, length, arith, subst, sym, ap, ◌∙◌}
+use Rattle.std.proofs.Common.{◌≡◌, ◌+◌, ℕ, Option, length, arith, subst, sym, ap}
 use Rattle.std.specs.Prelude.{IfSome}
 use Rattle.refutation_check.specs.Forgotten.{IsLean, NoneNames, without}
 use Rattle.refutation_check.specs.Judged.{Judged}
