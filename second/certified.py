@@ -914,7 +914,7 @@ def roomed(t, words, size, told):
 
 
 def sums(t):
-    """Logs of long sums, each a copy of the one before: peak memory beside the file's size."""
+    """Logs of long sums, each of the one before, with equal rows and with different ones: peak memory beside the file's size."""
     n, slots = 40, 78
     forty = t.path("forty.xml", instance_text(n, True))
     season = t.path("season.xml", t.run("circle", "40").out)
@@ -927,12 +927,12 @@ def sums(t):
         ("bound", [forty], b"bound 1\n", 1),
     )
     for command, words, head, more in commands:
-        for count in (1, 100, 400) if command == "check" else (1, 100):
+        for count, rest, kind in ((1, b"", ""), (400, b"", ", all equal"), (400, b"1 %d " % first, ", all different")):
             # The objective row stands behind the league's, and has no terms here.
-            copies = [b"l 1 %d 0 1\n" % (own + more + k + 1) for k in range(count - 1)]
-            path = t.path("sums.log", head, b"refutation 2\n", wide, *copies, b"end\n")
+            lines = [b"l 1 %d %s0 1\n" % (own + more + k + 1, rest) for k in range(count - 1)]
+            path = t.path("sums.log", head, b"refutation 2\n", wide, *lines, b"end\n")
             told = f"rejected step {count} cause NoEmptyClause\n"
-            name = f"{command} of {count} sums of 121680 terms"
+            name = f"{command} of {count} sums of 121680 terms{kind}"
             measured(t, name, [command, *words, path], 1, told, os.path.getsize(path), memory=6144)
             roomed(t, [command, *words, path], count * (64 + 8 * 121_680), told)
     # Each hint looks at the whole row, which isn't in conflict.
@@ -942,9 +942,9 @@ def sums(t):
     told = "rejected step 2 cause NoConflict\n"
     name = f"check of {hints} hints at a sum of 121680 terms"
     measured(t, name, ["check", forty, path], 1, told, os.path.getsize(path))
-    # Of so many that no memory of 2 GiB holds them: the answer is want of memory, and nothing is written.
-    copies = [b"l 1 %d 0 1\n" % (own + k + 1) for k in range(5_000)]
-    path = t.path("sums.log", b"refutation 2\n", wide, *copies, b"end\n")
+    # Of so many rows that no memory of 2 GiB holds them: the answer is want of memory, and nothing is written.
+    lines = [b"l 1 %d 1 %d 0 1\n" % (own + k + 1, first) for k in range(5_000)]
+    path = t.path("sums.log", b"refutation 2\n", wide, *lines, b"end\n")
     ran = t.run("check", forty, path, memory=2048, seconds=600)
     t.must((ran.status, ran.out) == (8, b""), "sums past 2 GiB", ran)
     print(f"    5001 sums within 2 GiB: status {ran.status}, {ran.seconds:.2f} s, peak {ran.peak:.0f} MiB", flush=True)
