@@ -357,8 +357,9 @@ def room_peaks(t):
     base = t.run("check", forty, few).peak
     print(f"    check of one short step: peak {base:.0f} MiB", flush=True)
     for name, factor, width in (("narrow", 1, 8), ("wide", 2**33, 32)):
-        copies = [f"l 1 {own + k + 1} 0 1" for k in range(400)]
-        path = t.path("copies.log", log_text([f"l {parts(factor)} 0 1", *copies]))
+        # Each sum has another row, since equal ones are kept once.
+        others = [f"l 1 {own + k + 1} 1 {first} 0 1" for k in range(400)]
+        path = t.path("others.log", log_text([f"l {parts(factor)} 0 1", *others]))
         for room in (2, 10, 50):
             ran = t.run("check", forty, path, "--room", str(room), seconds=600, memory=6144)
             row = (64 + width * 121_680) / MIB
