@@ -2,9 +2,12 @@
 use Rattle.std.proofs.Common.{◌≡◌, ℕ, ◌+◌, ◌-◌, ◌≤◌, List, Option, Some, Result, Ok, Err, inl, inr, refl, sym, subst, ◌∙◌, arith}
 use Rattle.std.specs.Borrow.{Bor}
 use Rattle.std.specs.Io.KnownBytes.{Appends, Keeps}
-use Rattle.robin_io.specs.Outside.{Output}
+use Rattle.robin_io.specs.Outside.{Output, Store}
+use Rattle.robin_watch.specs.declared.budgets.Budgets.{Budgets}
 use Rattle.command_line.specs.SeenWords.{command_of}
 use Rattle.command_line.specs.Words.{Command}
+use Rattle.command_line.specs.Words.Command.{Validate, Show, Demands, Sheet, Check, Solve, SolveFrom, Patterns, Explain, Part, Prove}
+use Rattle.command_line.specs.Words.Command.{Bound, Resume, ResumeNear, Audit, Rows, Values, Circle, Make, Trial, Help, Version}
 use Rattle.command_line.specs.declared.goal.Goal.{Goal}
 use Rattle.command_line.specs.declared.words.Words.{Words}
 use Rattle.command_line.specs.declared.words.Words.TheVariants as words
@@ -18,7 +21,7 @@ use Rattle.answers.specs.declared.status.Status.{Status}
 use Rattle.answers.specs.declared.status.Status.TheVariants.{Memory, WriteFault}
 use Rattle.robin_run.specs.Answer.{IsAnswer}
 use Rattle.robin_run.specs.Folded.{IsFolded, most_puts}
-use Rattle.robin_run.specs.Givens.{Gives, GivesReply, IsGiven, given_answer}
+use Rattle.robin_run.specs.Givens.{Gives, GivesReply, HearsNoWatch, IsGiven, given_answer}
 use Rattle.robin_run.specs.Run.{Answered, NothingFails, Run, Writes}
 use Rattle.robin_run.specs.declared.given.Given.{Given}
 use Rattle.robin_run.proofs.EndLemmas.{written-memory}
@@ -139,3 +142,66 @@ gives-reply (words.Make n seed) isnt = tt
 gives-reply (words.Trial n seed budgets) isnt = tt
 gives-reply (words.Help topic) isnt = tt
 gives-reply words.Version isnt = tt
+
+-- a command that gives a reply hears no watch, if it is none of those that do
+pub hears-none : (command : Words) → GivesReply (command_of command)
+    → ((instance : Bor (List ℕ)) (budgets : Budgets) → command ≡ words.Solve instance budgets → ⊥)
+    → ((instance solution : Bor (List ℕ)) (budgets : Budgets) → command ≡ words.SolveFrom instance solution budgets → ⊥)
+    → ((instance : Bor (List ℕ)) (conflicts : Option ℕ) → command ≡ words.Explain instance conflicts → ⊥)
+    → ((instance solution : Bor (List ℕ)) (floor conflicts : Option ℕ)
+    → command ≡ words.Prove instance solution floor conflicts → ⊥)
+    → ((instance solution : Bor (List ℕ)) (k : ℕ) (conflicts : Option ℕ)
+    → command ≡ words.Resume instance solution k conflicts → ⊥)
+    → ((instance solution : Bor (List ℕ)) (k : ℕ) (budgets : Budgets)
+    → command ≡ words.ResumeNear instance solution k budgets → ⊥)
+    → ((n : ℕ) (seed : ℕ) (budgets : Budgets) → command ≡ words.Trial n seed budgets → ⊥)
+    → HearsNoWatch (command_of command)
+hears-none (words.Rows instance goal) replies a b c d e f h = absurd replies
+hears-none (words.Validate instance solution) replies a b c d e f h = tt
+hears-none (words.Show instance solution most width) replies a b c d e f h = tt
+hears-none (words.Demands instance list) replies a b c d e f h = tt
+hears-none (words.Sheet instance solution) replies a b c d e f h = tt
+hears-none (words.Check instance log) replies a b c d e f h = tt
+hears-none (words.Solve instance budgets) replies a b c d e f h = a instance budgets refl
+hears-none (words.SolveFrom instance solution budgets) replies a b c d e f h = b instance solution budgets refl
+hears-none (words.Patterns instance conflicts) replies a b c d e f h = tt
+hears-none (words.Explain instance conflicts) replies a b c d e f h = c instance conflicts refl
+hears-none (words.Part instance list) replies a b c d e f h = tt
+hears-none (words.Prove instance solution floor conflicts) replies a b c d e f h = d instance solution floor conflicts refl
+hears-none (words.Bound instance log) replies a b c d e f h = tt
+hears-none (words.Resume instance solution k conflicts) replies a b c d e f h = e instance solution k conflicts refl
+hears-none (words.ResumeNear instance solution k budgets) replies a b c d e f h = f instance solution k budgets refl
+hears-none (words.Audit instance solution k log) replies a b c d e f h = tt
+hears-none (words.Values instance values) replies a b c d e f h = tt
+hears-none (words.Circle n) replies a b c d e f h = tt
+hears-none (words.Make n seed) replies a b c d e f h = tt
+hears-none (words.Trial n seed budgets) replies a b c d e f h = h n seed budgets refl
+hears-none (words.Help topic) replies a b c d e f h = tt
+hears-none words.Version replies a b c d e f h = tt
+
+-- what such a command answers is the same whatever may stop a run
+pub unwatched-answers : (may_stop : Type 0) (room : Option ℕ) (command : Command) (store : Store)
+    → HearsNoWatch command → (answer : Answer)
+    → IsAnswer ⊥ room (Some command) store answer → IsAnswer may_stop room (Some command) store answer
+unwatched-answers may_stop room (Validate instance solution) store hears answer is = is
+unwatched-answers may_stop room (Show instance solution most width) store hears answer is = is
+unwatched-answers may_stop room (Demands instance members) store hears answer is = is
+unwatched-answers may_stop room (Sheet instance solution) store hears answer is = is
+unwatched-answers may_stop room (Check instance log) store hears answer is = is
+unwatched-answers may_stop room (Solve instance budgets) store hears answer is = absurd hears
+unwatched-answers may_stop room (SolveFrom instance solution budgets) store hears answer is = absurd hears
+unwatched-answers may_stop room (Patterns instance conflicts) store hears answer is = is
+unwatched-answers may_stop room (Explain instance conflicts) store hears answer is = absurd hears
+unwatched-answers may_stop room (Part instance members) store hears answer is = is
+unwatched-answers may_stop room (Prove instance solution floor conflicts) store hears answer is = absurd hears
+unwatched-answers may_stop room (Bound instance log) store hears answer is = is
+unwatched-answers may_stop room (Resume instance solution k conflicts) store hears answer is = absurd hears
+unwatched-answers may_stop room (ResumeNear instance solution k budgets) store hears answer is = absurd hears
+unwatched-answers may_stop room (Audit instance solution k log) store hears answer is = is
+unwatched-answers may_stop room (Rows instance goal) store hears answer is = absurd hears
+unwatched-answers may_stop room (Values instance values) store hears answer is = is
+unwatched-answers may_stop room (Circle n) store hears answer is = is
+unwatched-answers may_stop room (Make n seed) store hears answer is = is
+unwatched-answers may_stop room (Trial n seed budgets) store hears answer is = absurd hears
+unwatched-answers may_stop room (Help topic) store hears answer is = is
+unwatched-answers may_stop room Version store hears answer is = is

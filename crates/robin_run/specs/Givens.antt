@@ -6,7 +6,7 @@ use Rattle.answers.specs.Stages.{Outcome}
 use Rattle.answers.specs.declared.reply.NoValue.{NoValue}
 use Rattle.answers.specs.declared.reply.Reply.{Reply}
 use Rattle.command_line.specs.Words.{Command}
-use Rattle.command_line.specs.Words.Command.{Rows}
+use Rattle.command_line.specs.Words.Command.{Rows, Solve, SolveFrom, Explain, Prove, Resume, ResumeNear, Trial}
 use Rattle.command_rows.specs.Rowed.{rows_answer}
 use Rattle.robin_run.specs.declared.given.Given.{Given}
 use Rattle.robin_run.specs.declared.given.Given.TheVariants as given
@@ -29,3 +29,15 @@ IsGiven (Err why) result = result ≡ Err why
 abbrev pub GivesReply : Command → Type 0
 GivesReply (Rows instance goal) = ⊥
 GivesReply _ = Unit {0}
+
+-- a command that gives a reply, and whose run no watch may end
+abbrev pub HearsNoWatch : Command → Type 0
+HearsNoWatch (Rows instance goal) = ⊥
+HearsNoWatch (Solve instance budgets) = ⊥
+HearsNoWatch (SolveFrom instance solution budgets) = ⊥
+HearsNoWatch (Explain instance conflicts) = ⊥
+HearsNoWatch (Prove instance solution floor conflicts) = ⊥
+HearsNoWatch (Resume instance solution k conflicts) = ⊥
+HearsNoWatch (ResumeNear instance solution k budgets) = ⊥
+HearsNoWatch (Trial n seed budgets) = ⊥
+HearsNoWatch _ = Unit {0}

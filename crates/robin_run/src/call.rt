@@ -15,7 +15,7 @@ ghost use Rattle.robin_run.specs.Answer.{IsAnswer};
 ghost use Rattle.robin_run.specs.Commands.{KeepsPromises};
 ghost use Rattle.robin_run.specs.Ends.{EndsByWords};
 ghost use Rattle.robin_run.specs.Folded.{IsFolded, most_puts};
-ghost use Rattle.robin_run.specs.Givens.{Gives, GivesReply};
+ghost use Rattle.robin_run.specs.Givens.{Gives, GivesReply, HearsNoWatch};
 ghost use Rattle.robin_run.specs.Run.{Answered, run_of, step_room};
 ghost use Rattle.robin_run.specs.Taken.{most_taken};
 
@@ -137,31 +137,16 @@ fn replied<S: Shelf, W: Listener>(
     ensures untouched { NeedsNoFile (Some (command_of command.entry)) → shelf.new ≡ shelf.old }
 {
     match command {
-        Words::Validate { instance, solution } => validate(alloc, shelf, instance, solution),
-        Words::Show {
-            instance,
-            solution,
-            most,
-            width,
-        } => show(alloc, shelf, instance, solution, Form::Text { most, width }),
-        Words::Demands { instance, list } => demands_of_list(alloc, shelf, instance, list),
-        Words::Sheet { instance, solution } => show(alloc, shelf, instance, solution, Form::Csv),
-        Words::Check { instance, log } => check(alloc, shelf, instance, log, limit),
         Words::Solve { instance, budgets } => solve_file(alloc, shelf, instance, budgets, watch),
         Words::SolveFrom {
             instance,
             solution,
             budgets,
         } => solve_from_file(alloc, shelf, instance, solution, budgets, watch),
-        Words::Patterns {
-            instance,
-            conflicts,
-        } => patterns_file(alloc, shelf, instance, conflicts),
         Words::Explain {
             instance,
             conflicts,
         } => explain_file(alloc, shelf, instance, conflicts, watch),
-        Words::Part { instance, list } => part_of_list(alloc, shelf, instance, list),
         Words::Prove {
             instance,
             solution,
@@ -171,7 +156,6 @@ fn replied<S: Shelf, W: Listener>(
             let aim = Aim { floor, conflicts };
             prove_file(alloc, shelf, instance, solution, aim, watch)
         }
-        Words::Bound { instance, log } => bound_file(alloc, shelf, instance, log, limit),
         Words::Resume {
             instance,
             solution,
@@ -190,6 +174,43 @@ fn replied<S: Shelf, W: Listener>(
             let resumption = NearResumption { k, budgets };
             resume_near_file(alloc, shelf, instance, solution, resumption, watch)
         }
+        Words::Trial { n, seed, budgets } => trial(alloc, n, seed, budgets, watch),
+        _ => unwatched(alloc, command, shelf, limit),
+    }
+}
+
+/// Follows a command that gives a reply and hears no watch.
+fn unwatched<S: Shelf>(
+    alloc: Global,
+    command: Words,
+    shelf: &mut S,
+    limit: Option<u128>,
+) -> Result<Reply, NoValue>
+    requires teams { HasTeams (command_of command) }
+    requires unwatched { HearsNoWatch (command_of command) }
+    ensures answer { Answers (IsAnswer ⊥ limit (Some (command_of command.entry))
+        (store_between S.Shelf shelf.old shelf.new)) result }
+    ensures taken { S.taken shelf.new ≤ S.taken shelf.old + most_taken (Some (command_of command.entry)) }
+    ensures contents { (n : List ℕ) → S.contents shelf.new n ≡ S.contents shelf.old n }
+    ensures untouched { NeedsNoFile (Some (command_of command.entry)) → shelf.new ≡ shelf.old }
+{
+    match command {
+        Words::Validate { instance, solution } => validate(alloc, shelf, instance, solution),
+        Words::Show {
+            instance,
+            solution,
+            most,
+            width,
+        } => show(alloc, shelf, instance, solution, Form::Text { most, width }),
+        Words::Demands { instance, list } => demands_of_list(alloc, shelf, instance, list),
+        Words::Sheet { instance, solution } => show(alloc, shelf, instance, solution, Form::Csv),
+        Words::Check { instance, log } => check(alloc, shelf, instance, log, limit),
+        Words::Patterns {
+            instance,
+            conflicts,
+        } => patterns_file(alloc, shelf, instance, conflicts),
+        Words::Part { instance, list } => part_of_list(alloc, shelf, instance, list),
+        Words::Bound { instance, log } => bound_file(alloc, shelf, instance, log, limit),
         Words::Audit {
             instance,
             solution,
@@ -199,13 +220,12 @@ fn replied<S: Shelf, W: Listener>(
             let audit = Audit { k, limit };
             audit_file(alloc, shelf, instance, solution, audit, log)
         }
-        Words::Rows { .. } => unreachable!(),
         Words::Values { instance, values } => values_file(alloc, shelf, instance, values),
         Words::Circle { n } => Ok(circle(alloc, n)?),
         Words::Make { n, seed } => Ok(make_league(alloc, n, seed)?),
-        Words::Trial { n, seed, budgets } => trial(alloc, n, seed, budgets, watch),
         Words::Help { topic } => Ok(help(alloc, topic)?),
         Words::Version => Ok(version(alloc)?),
+        _ => unreachable!(),
     }
 }
 
