@@ -1,3 +1,23 @@
+pub mod GapLemmas
+pub mod Se1Facts
+pub mod TeamLemmas
+pub mod Se1Terms
+pub mod LeadLemmas
+pub mod PlayedLemmas
+pub mod Fa2Terms
+pub mod BitLemmas
+pub mod BreakLemmas
+pub mod BreakTerms
+pub mod Ga1Facts
+pub mod Ga1Hosts
+pub mod ListedLemmas
+pub mod Ga1Terms
+pub mod BeforeLemmas
+pub mod CapacityHosts
+pub mod OpponentSums
+pub mod SpanLemmas
+pub mod CapacityTerms
+pub mod TouchLemmas
 pub mod EntryLemmas
 pub mod AssessLemmas
 mod DeviationFacts

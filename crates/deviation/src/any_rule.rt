@@ -3,13 +3,17 @@ ghost use Rattle.std.specs.Prelude.{◌≤◌, IfOk, IsTrue};
 ghost use Rattle.league.specs.Instance.{class_fits};
 ghost use Rattle.rule_core.specs.Rule.{IsRuleOf};
 
-use breaks::{Br1, Br2};
-use capacity::{Ca1, Ca2, Ca3, Ca4};
-use fairness::Fa2;
-use games::Ga1;
+use crate::br1::Br1;
+use crate::br2::Br2;
+use crate::ca1::Ca1;
+use crate::ca2::Ca2;
+use crate::ca3::Ca3;
+use crate::ca4::Ca4;
+use crate::fa2::Fa2;
+use crate::ga1::Ga1;
+use crate::se1::Se1;
 use league::{ClassName, Constraint, Game, TeamId};
 use rule_core::{Cells, Entries, Keys, Rule, Steps};
-use separation::Se1;
 use std::alloc::{AllocError, Global};
 
 /// A constraint of any of the nine classes of the competition (RobinX, ITC 2021), ready for evaluation.
@@ -68,15 +72,15 @@ impl AnyRule {
 impl Entries for AnyRule {
     ghost use Rattle.deviation.specs.declared.any_rule.AnyRule.TheVariants.{Ca1, Ca2, Ca3, Ca4, Ga1};
     ghost use Rattle.deviation.specs.declared.any_rule.AnyRule.TheVariants.{Br1, Br2, Fa2, Se1};
-    ghost use Rattle.capacity.specs.contracts.ca1.Ca1Entries.TheImpl.Laws as ca1_laws;
-    ghost use Rattle.capacity.specs.contracts.ca2.Ca2Entries.TheImpl.Laws as ca2_laws;
-    ghost use Rattle.capacity.specs.contracts.ca3.Ca3Entries.TheImpl.Laws as ca3_laws;
-    ghost use Rattle.capacity.specs.contracts.ca4.Ca4Entries.TheImpl.Laws as ca4_laws;
-    ghost use Rattle.games.specs.contracts.ga1.Ga1Entries.TheImpl.Laws as ga1_laws;
-    ghost use Rattle.breaks.specs.contracts.br1.Br1Entries.TheImpl.Laws as br1_laws;
-    ghost use Rattle.breaks.specs.contracts.br2.Br2Entries.TheImpl.Laws as br2_laws;
-    ghost use Rattle.fairness.specs.contracts.fa2.Fa2Entries.TheImpl.Laws as fa2_laws;
-    ghost use Rattle.separation.specs.contracts.se1.Se1Entries.TheImpl.Laws as se1_laws;
+    ghost use Rattle.deviation.specs.contracts.ca1.Ca1Entries.TheImpl.Laws as ca1_laws;
+    ghost use Rattle.deviation.specs.contracts.ca2.Ca2Entries.TheImpl.Laws as ca2_laws;
+    ghost use Rattle.deviation.specs.contracts.ca3.Ca3Entries.TheImpl.Laws as ca3_laws;
+    ghost use Rattle.deviation.specs.contracts.ca4.Ca4Entries.TheImpl.Laws as ca4_laws;
+    ghost use Rattle.deviation.specs.contracts.ga1.Ga1Entries.TheImpl.Laws as ga1_laws;
+    ghost use Rattle.deviation.specs.contracts.br1.Br1Entries.TheImpl.Laws as br1_laws;
+    ghost use Rattle.deviation.specs.contracts.br2.Br2Entries.TheImpl.Laws as br2_laws;
+    ghost use Rattle.deviation.specs.contracts.fa2.Fa2Entries.TheImpl.Laws as fa2_laws;
+    ghost use Rattle.deviation.specs.contracts.se1.Se1Entries.TheImpl.Laws as se1_laws;
 
     ghost team_count = { elim [
       | Ca1 r ↦ ⟦<Ca1 as Entries>⟧.team_count r

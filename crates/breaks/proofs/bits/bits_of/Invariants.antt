@@ -1,9 +1,0 @@
-use Rattle.std.proofs.Common.{ℕ, ◌<◌, ◌≤◌, ◌^◌, length, get_or, take}
-use Rattle.breaks.specs.Bits.{AreBits}
-use Rattle.breaks.proofs.bits.bits_of.Given as goal
-
-abbrev pub invariant-loop-number : goal.invariant-loop-number
-invariant-loop-number l = record {
-  set : AreBits (take l.number-index l.numbers) l.bits;
-  below : (k : ℕ) → l.number-index ≤ k → k < length l.numbers → l.bits < 2 ^ get_or l.numbers k 0;
-}

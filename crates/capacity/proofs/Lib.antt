@@ -1,6 +1,0 @@
-pub mod BeforeLemmas
-pub mod HostLemmas
-pub mod OpponentSums
-pub mod SpanLemmas
-pub mod TermLemmas
-pub mod TouchLemmas

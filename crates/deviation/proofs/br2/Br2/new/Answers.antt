@@ -1,0 +1,15 @@
+use Rattle.std.proofs.Common.{List, ℕ, ap, refl, sym, ◌∙◌}
+use Rattle.league.specs.declared.class.Class.TheVariants.{Br2}
+use Rattle.rule_core.proofs.ReadyLemmas.{IsRuleOf-made}
+use Rattle.deviation.proofs.br2.Br2.new.Goals as goal
+
+pub returns : goal.returns
+returns c =
+    let scope = c.in_ok-of.field-0 in
+    record {
+      rule = IsRuleOf-made _ c.args.n (Br2 scope.teams c.in-Br2.intp scope.slots) c.args.constraint.now.class _
+          (ap (λ (teams : List ℕ). Br2 teams c.in-Br2.intp scope.slots) c.in_ok-of.ensures.teams
+          ∙ ap (λ (slots : List ℕ). Br2 c.in-Br2.teams c.in-Br2.intp slots) c.in_ok-of.ensures.slots
+          ∙ sym c.in-Br2.is)
+          c.requires.at_most c.requires.fits refl refl refl (λ k m. refl) (λ g. refl) (λ t. refl);
+    }

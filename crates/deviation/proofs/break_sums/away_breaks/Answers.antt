@@ -1,0 +1,10 @@
+use Rattle.league.specs.Counts.{slot_count}
+use Rattle.league.specs.Venues.{away_games}
+use Rattle.rule_core.specs.Table.{table_counts}
+use Rattle.deviation.proofs.break_sums.away_breaks.Goals as goal
+
+pub returns-clause-breaks : goal.returns-clause-breaks
+returns-clause-breaks c =
+    c.breaks_of.ensures.breaks (slot_count c.args.cells.now.n)
+    (away_games c.args.cells.now.n (table_counts c.args.cells.now) c.args.team.0) c.requires.slots
+    c.away_slots.ensures.slots

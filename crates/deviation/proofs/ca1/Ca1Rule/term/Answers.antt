@@ -1,0 +1,7 @@
+use Rattle.rule_core.specs.Table.{table_counts}
+use Rattle.deviation.proofs.CapacityTerms.{ca1_term}
+use Rattle.deviation.proofs.ca1.Ca1Rule.term.Goals as goal
+
+pub returns-clause-entry : goal.returns-clause-entry
+returns-clause-entry g c =
+    ca1_term c.args.self.now (table_counts c.args.cells.now) c.args.key c.args.cells.now.n c.get.result c.numbers.result.now c.games_in-games.result c.outside.result c.requires.key c.requires.teams c.get.ensures c.numbers.ensures.numbers c.games_in-games.ensures c.outside.ensures

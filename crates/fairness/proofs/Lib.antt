@@ -1,3 +1,0 @@
-pub mod LeadLemmas
-pub mod PlayedLemmas
-pub mod TermLemmas

@@ -1,4 +1,0 @@
-pub mod Ga1Facts
-pub mod HostLemmas
-pub mod ListedLemmas
-pub mod TermLemmas

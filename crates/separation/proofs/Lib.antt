@@ -1,4 +1,0 @@
-pub mod GapLemmas
-pub mod Se1Facts
-pub mod TeamLemmas
-pub mod TermLemmas
