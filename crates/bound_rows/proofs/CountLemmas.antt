@@ -14,11 +14,11 @@ use Rattle.league.proofs.SumLemmas.{sum_by-map}
 use Rattle.rows.specs.Cardinality.{at_most}
 use Rattle.rows.specs.Rows.{Row, size_of}
 use Rattle.rows.proofs.ListLemmas.{sum_by-range-append}
-use Rattle.encoding_base.specs.Encoding.{constraint_rows, demands, encoding_size, season_rows}
-use Rattle.encoding_base.specs.Lists.{games_in}
-use Rattle.encoding_base.specs.Variables.{has_breaks}
-use Rattle.encoding_sizes.proofs.SeasonSizes.{size_of-breaks}
-use Rattle.encoding_base.specs.Season.{break_rows}
+use Rattle.encoding.specs.Encoding.{constraint_rows, demands, encoding_size, season_rows}
+use Rattle.encoding.specs.Lists.{games_in}
+use Rattle.encoding.specs.Variables.{has_breaks}
+use Rattle.encoding.proofs.SeasonSizes.{size_of-breaks}
+use Rattle.encoding.specs.Season.{break_rows}
 use Rattle.bound_rows.specs.BoundRows.{base_rows, needs_breaks}
 use Rattle.bound_rows.specs.Parts.{se1_parts}
 use Rattle.bound_rows.specs.Sizes.{group_size, part_size, parts_size}

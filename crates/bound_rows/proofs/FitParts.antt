@@ -21,7 +21,7 @@ use Rattle.league.proofs.FitLemmas.{are_slots-below, are_teams-below}
 use Rattle.league.proofs.OneTermLemmas.{All-flat_map}
 use Rattle.league.proofs.NumberSets.{is_before}
 use Rattle.rows.proofs.ListLemmas.{list_all-range}
-use Rattle.encoding_base.proofs.MeetingOrder.{AreTeams-from_test, pairs_of-in_order}
+use Rattle.encoding.proofs.MeetingOrder.{AreTeams-from_test, pairs_of-in_order}
 use Rattle.bound_rows.specs.Parts.{ca3_parts, parts_of, se1_parts}
 
 -- a part that fits

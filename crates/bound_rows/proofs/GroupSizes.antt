@@ -10,10 +10,10 @@ use Rattle.league.proofs.SumLemmas.{sum_by-filter, sum_by-flat_map, sum_by-same}
 use Rattle.rows.specs.Cardinality.{at_most, between, unit}
 use Rattle.rows.specs.Literals.{Literal, negate}
 use Rattle.rows.specs.Rows.{Row}
-use Rattle.encoding_base.specs.Encoding.{demands}
-use Rattle.encoding_base.specs.Keys.{Bounded, key_of, places_of, rows_of_subject}
-use Rattle.encoding_base.specs.declared.subjects.Subject.{Subject}
-use Rattle.encoding_base.proofs.KeyRowLemmas.{filter-flat_map}
+use Rattle.encoding.specs.Encoding.{demands}
+use Rattle.encoding.specs.Keys.{Bounded, key_of, places_of, rows_of_subject}
+use Rattle.encoding.specs.declared.subjects.Subject.{Subject}
+use Rattle.encoding.proofs.KeyRowLemmas.{filter-flat_map}
 use Rattle.bound_rows.specs.Sizes.{between_size, between_units, bounds_size, group_size, key_rows_size, key_units}
 use Rattle.bound_rows.specs.Sizes.{row_size, shared_size, shared_units, units_size}
 

@@ -13,11 +13,11 @@ use Rattle.league.specs.declared.class.Side.TheVariants.{Both}
 use Rattle.rows.specs.Cardinality.{unit}
 use Rattle.rows.specs.Literals.{Literal, no, yes}
 use Rattle.rows.specs.declared.lit.Term.{Term}
-use Rattle.encoding_base.specs.Encoding.{constraint_rows, season_rows}
-use Rattle.encoding_base.specs.Known.{AreKnown, IsKnown}
-use Rattle.encoding_base.specs.Season.{break_rows}
-use Rattle.encoding_base.specs.Variables.{h_count, has_breaks, hb_count, x_count}
-use Rattle.encoding_base.proofs.AscendLemmas.{AscendsBy-above, AscendsBy-below}
+use Rattle.encoding.specs.Encoding.{constraint_rows, season_rows}
+use Rattle.encoding.specs.Known.{AreKnown, IsKnown}
+use Rattle.encoding.specs.Season.{break_rows}
+use Rattle.encoding.specs.Variables.{h_count, has_breaks, hb_count, x_count}
+use Rattle.encoding.proofs.AscendLemmas.{AscendsBy-above, AscendsBy-below}
 use Rattle.encoding.proofs.KnownLemmas.{constraint_rows-known, rows_of-known, season_rows-known}
 use Rattle.bound_rows.specs.BoundRows.{base_rows, base_vars, bound_rows, bound_vars, first_unit, has_paid_breaks}
 use Rattle.bound_rows.specs.BoundRows.{league_groups, needs_breaks}

@@ -14,8 +14,8 @@ use Rattle.league.specs.declared.class.Class.{Class}
 use Rattle.league.specs.declared.class.Constraint.{Constraint}
 use Rattle.league.proofs.SumLemmas.{sum_by-filter, sum_by-map, sum_by-same, sum_by-same_in}
 use Rattle.rows.proofs.ListLemmas.{list_all-part}
-use Rattle.encoding_base.specs.Encoding.{class_rows}
-use Rattle.encoding_base.specs.Variables.{bounds_breaks}
+use Rattle.encoding.specs.Encoding.{class_rows}
+use Rattle.encoding.specs.Variables.{bounds_breaks}
 use Rattle.decoding.specs.Mirrors.{Mirrors, MirrorsBreaks}
 use Rattle.decoding.specs.Shortfalls.{units_needed}
 use Rattle.bound_rows.specs.BoundRows.{group_of, groups_of, paid_of}

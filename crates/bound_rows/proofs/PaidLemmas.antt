@@ -3,7 +3,7 @@ use Rattle.std.proofs.Common.{◌≡◌, Bool, true, false, not, ◌&&◌, ◌||
 use Rattle.std.specs.List.{filter, list_any}
 use Rattle.league.specs.Accepted.{soft_of}
 use Rattle.league.specs.declared.class.Constraint.{Constraint}
-use Rattle.encoding_base.specs.Variables.{bounds_breaks}
+use Rattle.encoding.specs.Variables.{bounds_breaks}
 use Rattle.bound_rows.specs.BoundRows.{has_paid_breaks, paid_of}
 
 -- whether a constraint costs anything where it is soft

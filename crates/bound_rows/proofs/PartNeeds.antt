@@ -24,9 +24,9 @@ use Rattle.league.proofs.RangeLemmas.{one_if, one_if-le}
 use Rattle.league.proofs.SumLemmas.{sum_by-flat_map, sum_by-map, sum_by-same}
 use Rattle.league.proofs.OneTermLemmas.{All-flat_map}
 use Rattle.rows.proofs.ListLemmas.{sum_by-agree}
-use Rattle.encoding_base.specs.Demands.{br1_rows, br2_rows, ca1_rows, ca2_rows, ca4_rows, fa2_rows, ga1_rows, se1_rows}
-use Rattle.encoding_base.specs.Encoding.{class_rows}
-use Rattle.encoding_base.specs.Variables.{bounds_breaks}
+use Rattle.encoding.specs.Demands.{br1_rows, br2_rows, ca1_rows, ca2_rows, ca4_rows, fa2_rows, ga1_rows, se1_rows}
+use Rattle.encoding.specs.Encoding.{class_rows}
+use Rattle.encoding.specs.Variables.{bounds_breaks}
 use Rattle.decoding.specs.Below.{all_below}
 use Rattle.decoding.specs.Mirrors.{Mirrors, MirrorsBreaks}
 use Rattle.decoding.specs.Shortfalls.{shortfall, units_needed}

@@ -19,15 +19,15 @@ use Rattle.league.specs.declared.class.Span.TheVariants.{Global, Every}
 use Rattle.league.proofs.SumLemmas.{sum_by-flat_map, sum_by-map, sum_by-same}
 use Rattle.rows.specs.Literals.{Literal}
 use Rattle.rows.specs.Rows.{Row}
-use Rattle.encoding_base.specs.Keys.{Bounded, key_of, places_of, rows_of_subject, subjects_of}
-use Rattle.encoding_base.specs.Lists.{away_breaks_at, breaks_in, games_in, home_breaks_at, meetings_in_order}
-use Rattle.encoding_base.specs.Lists.{slots_up_to, venues_in}
-use Rattle.encoding_base.specs.declared.subjects.Subject.{Subject}
-use Rattle.encoding_base.specs.declared.subjects.Subject.TheVariants.{Whole, Team, Pair}
-use Rattle.encoding_base.proofs.KeyLaws.{class_rows-keys}
-use Rattle.encoding_sizes.proofs.AlikeKeys.{measured, places_alike}
-use Rattle.encoding_sizes.proofs.ClassSizeLemmas.{length-lead}
-use Rattle.encoding_sizes.proofs.SizeLemmas.{sum_by-constant}
+use Rattle.encoding.specs.Keys.{Bounded, key_of, places_of, rows_of_subject, subjects_of}
+use Rattle.encoding.specs.Lists.{away_breaks_at, breaks_in, games_in, home_breaks_at, meetings_in_order}
+use Rattle.encoding.specs.Lists.{slots_up_to, venues_in}
+use Rattle.encoding.specs.declared.subjects.Subject.{Subject}
+use Rattle.encoding.specs.declared.subjects.Subject.TheVariants.{Whole, Team, Pair}
+use Rattle.encoding.proofs.KeyLaws.{class_rows-keys}
+use Rattle.encoding.proofs.AlikeKeys.{measured, places_alike}
+use Rattle.encoding.proofs.ClassSizeLemmas.{length-lead}
+use Rattle.encoding.proofs.SizeLemmas.{sum_by-constant}
 use Rattle.bound_rows.specs.Parts.{ca3_parts, parts_of}
 use Rattle.bound_rows.specs.Sizes.{between_size, between_units, bounds_size, group_size, key_rows_size, key_size}
 use Rattle.bound_rows.specs.Sizes.{key_units, part_size, parts_size, shared_size, shared_units, subject_size}

@@ -17,8 +17,8 @@ use Rattle.league.specs.Meetings.{pairs_of}
 use Rattle.std.specs.List.{range_with_len}
 use Rattle.league.proofs.SumLemmas.{sum_by-map}
 use Rattle.league.proofs.OneTermLemmas.{All-flat_map}
-use Rattle.encoding_base.specs.Known.{AreKnown}
-use Rattle.encoding_base.specs.Variables.{bounds_breaks, h_count, has_breaks, hb_count, x_count}
+use Rattle.encoding.specs.Known.{AreKnown}
+use Rattle.encoding.specs.Variables.{bounds_breaks, h_count, has_breaks, hb_count, x_count}
 use Rattle.encoding.proofs.KnownLemmas.{class_rows-known}
 use Rattle.bound_rows.specs.BoundRows.{base_vars, bound_size, first_unit, group_of, groups_of, has_paid_breaks}
 use Rattle.bound_rows.specs.BoundRows.{league_groups, needs_breaks, paid_of}

@@ -9,9 +9,9 @@ use Rattle.rows.specs.Cardinality.{unit}
 use Rattle.rows.specs.Literals.{Literal, yes}
 use Rattle.rows.specs.Rows.{IsRow, Row}
 use Rattle.rows.specs.declared.lit.Term.{Term}
-use Rattle.encoding_base.specs.Ascending.{AscendsBy}
-use Rattle.encoding_base.proofs.AscendLemmas.{AllPairs-ascending, AscendsBy-above, AscendsBy-append, AscendsBy-high}
-use Rattle.encoding_base.proofs.AscendLemmas.{AscendsBy-map, AscendsBy-range}
+use Rattle.encoding.specs.Ascending.{AscendsBy}
+use Rattle.encoding.proofs.AscendLemmas.{AllPairs-ascending, AscendsBy-above, AscendsBy-append, AscendsBy-high}
+use Rattle.encoding.proofs.AscendLemmas.{AscendsBy-map, AscendsBy-range}
 use Rattle.bound_rows.specs.Softening.{Group, costs, costs_from, soften, units_from}
 use Rattle.bound_rows.specs.Bare.{bare, bare_groups}
 use Rattle.bound_rows.specs.declared.units.Units.{Units}

@@ -23,8 +23,8 @@ use Rattle.league.proofs.SumLemmas.{sum_by-add}
 use Rattle.rows.specs.Cardinality.{at_most}
 use Rattle.rows.specs.Rows.{Row}
 use Rattle.rows.proofs.ListLemmas.{list_all-range, list_all-weaker, sum_by-range-part}
-use Rattle.encoding_base.specs.Demands.{se1_rows}
-use Rattle.encoding_base.specs.Lists.{games_in}
+use Rattle.encoding.specs.Demands.{se1_rows}
+use Rattle.encoding.specs.Lists.{games_in}
 use Rattle.decoding.specs.Below.{all_below}
 use Rattle.decoding.specs.Mirrors.{Mirrors}
 use Rattle.decoding.specs.Shortfalls.{shortfall, units_needed}

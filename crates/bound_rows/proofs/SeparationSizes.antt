@@ -16,12 +16,12 @@ use Rattle.league.proofs.SumLemmas.{sum_by-map, sum_by-same}
 use Rattle.rows.specs.Cardinality.{at_most, unit}
 use Rattle.rows.specs.Literals.{Literal, negate}
 use Rattle.rows.specs.Rows.{Row}
-use Rattle.encoding_base.specs.Encoding.{demands}
-use Rattle.encoding_base.specs.Keys.{Bounded, key_of, separation}
-use Rattle.encoding_base.specs.Lists.{games_in}
-use Rattle.encoding_base.specs.declared.subjects.Subject.TheVariants.{Pair}
-use Rattle.encoding_sizes.proofs.ClassSizeLemmas.{two_meetings}
-use Rattle.encoding_sizes.proofs.SizeLemmas.{length-games_in, sum_by-constant, sum_by-same_at}
+use Rattle.encoding.specs.Encoding.{demands}
+use Rattle.encoding.specs.Keys.{Bounded, key_of, separation}
+use Rattle.encoding.specs.Lists.{games_in}
+use Rattle.encoding.specs.declared.subjects.Subject.TheVariants.{Pair}
+use Rattle.encoding.proofs.ClassSizeLemmas.{two_meetings}
+use Rattle.encoding.proofs.SizeLemmas.{length-games_in, sum_by-constant, sum_by-same_at}
 use Rattle.bound_rows.specs.Parts.{se1_parts}
 use Rattle.bound_rows.specs.Sizes.{bounds_size, part_size, parts_size, row_size}
 

@@ -16,8 +16,8 @@ use Rattle.league.proofs.OneTermLemmas.{All-flat_map}
 use Rattle.rows.specs.Cardinality.{unit}
 use Rattle.rows.specs.Literals.{yes}
 use Rattle.rows.specs.Rows.{Row, size_of}
-use Rattle.encoding_base.specs.Demands.{rows_by_key}
-use Rattle.encoding_base.specs.Encoding.{class_rows, demands}
+use Rattle.encoding.specs.Demands.{rows_by_key}
+use Rattle.encoding.specs.Encoding.{class_rows, demands}
 use Rattle.std.proofs.lemmas.List.Elements.{All-map}
 use Rattle.bound_rows.specs.BoundRows.{base_rows, bound_size, first_unit, group_of, groups_of, league_groups, paid_of}
 use Rattle.bound_rows.specs.BoundRows.{units_of}

@@ -16,7 +16,7 @@ use Rattle.rows.specs.Rows.{Row, is_true, weight}
 use Rattle.rows.specs.Tests.{all_satisfied, satisfied, true_count}
 use Rattle.rows.specs.declared.lit.Term.{Term}
 use Rattle.rows.proofs.TestLemmas.{weight-units}
-use Rattle.encoding_base.specs.Encoding.{demands}
+use Rattle.encoding.specs.Encoding.{demands}
 use Rattle.decoding.specs.Shortfalls.{shortfall, units_needed}
 use Rattle.decoding.proofs.ShortfallLemmas.{largest-cons}
 use Rattle.bound_rows.specs.Softening.{Group, costs, costs_from, objective_row, soften, softened_rows, total_cost}

@@ -8,9 +8,9 @@ use Rattle.league.specs.declared.class.Class.{Class}
 use Rattle.league.specs.declared.class.Class.TheVariants.{Se1}
 use Rattle.league.specs.declared.class.Constraint.{Constraint}
 use Rattle.rows.specs.Rows.{Row, size_of}
-use Rattle.encoding_base.specs.Encoding.{class_rows, constraint_rows, season_rows}
-use Rattle.encoding_base.specs.Season.{break_rows}
-use Rattle.encoding_base.specs.Variables.{bounds_breaks, h_count, has_breaks, hb_count, x_count}
+use Rattle.encoding.specs.Encoding.{class_rows, constraint_rows, season_rows}
+use Rattle.encoding.specs.Season.{break_rows}
+use Rattle.encoding.specs.Variables.{bounds_breaks, h_count, has_breaks, hb_count, x_count}
 use Rattle.bound_rows.specs.Parts.{parts_of}
 use Rattle.bound_rows.specs.Softening.{Group, objective_row, order_rows, softened_rows}
 

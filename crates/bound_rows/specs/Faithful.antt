@@ -5,7 +5,7 @@ use Rattle.league.specs.Accepted.{IsAccepted, objective}
 use Rattle.league.specs.Counts.{Counts, counts_of}
 use Rattle.league.specs.Instance.{Instance, IsInstance}
 use Rattle.rows.specs.Rows.{SatisfiesAll}
-use Rattle.encoding_base.specs.Shadow.{decoded}
+use Rattle.encoding.specs.Shadow.{decoded}
 use Rattle.refutation_check.specs.Soundness.{HaveNoSolution}
 use Rattle.bound_rows.specs.BoundRows.{bound_rows}
 

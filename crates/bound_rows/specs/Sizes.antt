@@ -5,9 +5,9 @@ use Rattle.league.specs.Bounds.{largest}
 use Rattle.league.specs.declared.class.Class.{Class}
 use Rattle.league.specs.declared.class.Constraint.{Constraint}
 use Rattle.rows.specs.Rows.{Row}
-use Rattle.encoding_base.specs.Encoding.{class_rows}
-use Rattle.encoding_base.specs.Keys.{Bounded, key_of, places_of, subjects_of}
-use Rattle.encoding_base.specs.declared.subjects.Subject.{Subject}
+use Rattle.encoding.specs.Encoding.{class_rows}
+use Rattle.encoding.specs.Keys.{Bounded, key_of, places_of, subjects_of}
+use Rattle.encoding.specs.declared.subjects.Subject.{Subject}
 use Rattle.bound_rows.specs.BoundRows.{paid_of, units_of}
 use Rattle.bound_rows.specs.Parts.{parts_of}
 

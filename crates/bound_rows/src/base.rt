@@ -1,10 +1,10 @@
 //! Which constraints are paid for, and the variables beside their units.
 ghost use Rattle.std.specs.Prelude.{◌≡◌, ◌^◌, ◌<◌, ◌≤◌, ◌&&◌, not, nat_lt};
 ghost use Rattle.std.specs.List.{list_any};
-ghost use Rattle.encoding_base.specs.Variables as variables;
+ghost use Rattle.encoding.specs.Variables as variables;
 ghost use Rattle.bound_rows.specs.BoundRows as bound_rows;
 
-use encoding_base::{h_count, has_breaks, hb_count, x_count};
+use encoding::{h_count, has_breaks, hb_count, x_count};
 use league::{Class, Constraint, League};
 
 /// Whether a constraint is soft and its deviation costs something.

@@ -3,7 +3,7 @@ ghost use Rattle.std.specs.Prelude.{◌≡◌, ◌+◌, ◌*◌, ◌^◌, ◌<�
 ghost use Rattle.std.specs.List.{All};
 ghost use Rattle.league.specs.Instance.{IsTeamCount, class_fits};
 ghost use Rattle.rows.specs.Rows.{size_of};
-ghost use Rattle.encoding_base.specs.Encoding as encoding;
+ghost use Rattle.encoding.specs.Encoding as encoding;
 ghost use Rattle.bound_rows.specs.BoundRows as bounds;
 ghost use Rattle.bound_rows.specs.Bounded.{IsCounted};
 ghost use Rattle.bound_rows.specs.Sizes as sizes;
@@ -11,8 +11,7 @@ ghost use Rattle.encoding.specs.Limit.{most_terms};
 
 use crate::base::{is_paid, needs_breaks};
 use crate::sizes::class_terms;
-use encoding_base::has_breaks;
-use encoding_sizes::encoding_size;
+use encoding::{encoding_size, has_breaks};
 use league::{Constraint, League};
 
 /// How many terms the bound rows of a league have. Their number is the same for every bound, and below 2^64 for every

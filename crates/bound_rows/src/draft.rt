@@ -8,7 +8,7 @@ ghost use Rattle.bound_rows.specs.Drafts.{Extends, HasRoom};
 
 use crate::base::is_paid;
 use crate::{Units, add_softened, parts_of, unit_count};
-use encoding_rows::{Season, write_class};
+use encoding::{Season, write_class};
 use league::{Class, Constraint};
 use rows::RowStore;
 use std::alloc::{AllocError, Global};

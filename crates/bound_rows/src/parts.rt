@@ -5,13 +5,13 @@ ghost use Rattle.league.specs.Capacity.{windows_of};
 ghost use Rattle.league.specs.Counts as counts;
 ghost use Rattle.league.specs.Instance.{class_fits};
 ghost use Rattle.league.specs.Names.{name_of};
-ghost use Rattle.encoding_base.specs.Pairs.{IsPair};
+ghost use Rattle.encoding.specs.Pairs.{IsPair};
 ghost use Rattle.bound_rows.specs.Parts as parts;
 ghost use Rattle.bound_rows.specs.OneOf.{is_by_team, of_pair, of_slots, of_team, of_window};
 
 use crate::makers::{pair_part, se1_part, slots_part, team_part, window_part};
 use crate::sets::{one_slot, slot_set};
-use encoding_base::team_pairs;
+use encoding::team_pairs;
 use league::{Class, ClassName, Constraint, Span, slot_count};
 use std::alloc::{AllocError, Global};
 

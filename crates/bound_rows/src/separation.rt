@@ -7,8 +7,7 @@ ghost use Rattle.bound_rows.specs.Parts as parts;
 ghost use Rattle.bound_rows.specs.Sizes as sizes;
 
 use crate::groups::{bounds_terms, units_terms};
-use encoding_base::{pair_total, separation_key, separation_places};
-use encoding_sizes::literal_count;
+use encoding::{literal_count, pair_total, separation_key, separation_places};
 use league::{Class, ClassName, slot_count};
 
 /// How many terms the groups of an SE1 have: as many for each two of its teams.

@@ -4,14 +4,13 @@ ghost use Rattle.league.specs.Counts as counts;
 ghost use Rattle.league.specs.Instance.{IsTeamCount, class_fits};
 ghost use Rattle.league.specs.Names.{name_of};
 ghost use Rattle.league.specs.Shapes.{has_bounds};
-ghost use Rattle.encoding_base.specs.Keys.{IsWithin, key_of, suits, width};
+ghost use Rattle.encoding.specs.Keys.{IsWithin, key_of, suits, width};
 ghost use Rattle.bound_rows.specs.Parts as parts;
 ghost use Rattle.bound_rows.specs.Sizes as sizes;
 
 use crate::groups::{between_terms, between_units, bounds_terms, units_terms};
 use crate::separation::se1_terms;
-use encoding_base::{Subject, key_at, places_of, subject_at, subject_count};
-use encoding_sizes::literal_count;
+use encoding::{Subject, key_at, literal_count, places_of, subject_at, subject_count};
 use league::{Class, ClassName};
 
 /// How many terms the groups of a class have that fits a league of n teams. It takes no memory.

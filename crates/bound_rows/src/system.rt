@@ -1,7 +1,7 @@
 //! The bound rows of a league and a bound.
 ghost use Rattle.std.specs.Prelude.{◌≡◌, ◌≤◌, IfOk};
 ghost use Rattle.league.specs.Instance.{IsInstance};
-ghost use Rattle.encoding_base.specs.Known.{AreKnown};
+ghost use Rattle.encoding.specs.Known.{AreKnown};
 ghost use Rattle.bound_rows.specs.BoundRows.{bound_rows, bound_vars};
 ghost use Rattle.bound_rows.specs.Bounded.{IsCounted};
 

@@ -10,7 +10,7 @@ ghost use Rattle.encoding.specs.Limit.{most_terms};
 use crate::base::{base_vars, needs_breaks};
 use crate::draft::{Draft, add_paid};
 use crate::{push_objective, push_orders};
-use encoding_rows::{Season, write_rows_with};
+use encoding::{Season, write_rows_with};
 use league::League;
 use rows::RowStore;
 use std::alloc::{AllocError, Global};

@@ -12,9 +12,9 @@ use Rattle.league.specs.Order.{IsInOrder}
 use Rattle.league.specs.declared.class.Constraint.{Constraint}
 use Rattle.league.specs.declared.game.Game.{Game}
 use Rattle.rows.specs.Rows.{Row, SatisfiesAll}
-use Rattle.encoding_base.specs.Known.{AreKnown, IsKnown}
-use Rattle.encoding_base.specs.Shadow.{decoded}
-use Rattle.encoding_base.specs.Variables.{x_count}
+use Rattle.encoding.specs.Known.{AreKnown, IsKnown}
+use Rattle.encoding.specs.Shadow.{decoded}
+use Rattle.encoding.specs.Variables.{x_count}
 use Rattle.propagate.specs.Trails.{KnowsVariables}
 use Rattle.refutation_check.proofs.SoundLemmas.{accepted_logs_refute}
 use Rattle.refutation.specs.Steps.{NamesRows, Step, is_linear}

@@ -6,9 +6,9 @@ use Rattle.std.proofs.lemmas.List.Elements.{All-push}
 use Rattle.league.specs.Counts.{counts_of}
 use Rattle.league.specs.Instance.{Instance, IsInstance}
 use Rattle.rows.specs.Rows.{SatisfiesAll}
-use Rattle.encoding_base.specs.Encoding.{rows_of}
-use Rattle.encoding_base.specs.Shadow.{decoded}
-use Rattle.encoding_base.specs.Variables.{var_count}
+use Rattle.encoding.specs.Encoding.{rows_of}
+use Rattle.encoding.specs.Shadow.{decoded}
+use Rattle.encoding.specs.Variables.{var_count}
 use Rattle.decoding.proofs.Faithful.{accepted-from_rows}
 use Rattle.refutation.specs.Steps.{Step, is_linear}
 use Rattle.refutation.specs.Steps.Step.{Clause}

@@ -7,7 +7,7 @@ ghost use Rattle.break_counts.specs.Tables.{AreLowered, IsTable, IsTableOn, IsUn
 
 use crate::cover::covers;
 use crate::stretch::Stretch;
-use encoding_base::team_numbers;
+use encoding::team_numbers;
 use league::{Class, Constraint, League, Side};
 use std::alloc::{AllocError, Global};
 

@@ -4,8 +4,7 @@ ghost use Rattle.std.specs.List.{All};
 
 use crate::cover::{covers, has};
 use crate::stretch::Stretch;
-use encoding::Encoding;
-use encoding_base::{ab_at, hb_at};
+use encoding::{Encoding, ab_at, hb_at};
 use league::{Class, Constraint, League, Side, slot_count};
 use rows::{Lit, RowStore, Term};
 use std::alloc::{AllocError, Global};

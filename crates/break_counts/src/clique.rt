@@ -6,7 +6,7 @@ ghost use Rattle.std.specs.List.{All};
 use crate::frame::Frame;
 use crate::stretch::Stretch;
 use crate::writer::Writer;
-use encoding_base::{ab_at, h_at, hb_at};
+use encoding::{ab_at, h_at, hb_at};
 use refutation::Part;
 use rows::Lit;
 use std::alloc::{AllocError, Global};

@@ -2,7 +2,7 @@
 ghost use Rattle.std.specs.Prelude.{◌≡◌, ◌≤◌, ◌↔◌, true, IfOk, IfSome, IsSome};
 ghost use Rattle.league.specs.Instance.{IsInstance};
 ghost use Rattle.encoding.specs.Limit.{most_terms};
-ghost use Rattle.encoding_base.specs.Encoding.{encoding_size};
+ghost use Rattle.encoding.specs.Encoding.{encoding_size};
 ghost use Rattle.venue_counts.specs.CountLogs.{IsRefuting};
 ghost use Rattle.break_counts.specs.BreakCounts.{are_few};
 ghost use Rattle.break_counts.specs.Sums.{AddUp};

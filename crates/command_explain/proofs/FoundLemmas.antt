@@ -14,7 +14,7 @@ use Rattle.robinx_tags.specs.Pieces.{pieces}
 use Rattle.robinx_form.specs.SolutionFile.{solution_of}
 use Rattle.robinx_form.specs.Texts.{solution_text}
 use Rattle.robinx_write.proofs.SolutionLemmas.{solution-reads_back}
-use Rattle.encoding_base.specs.Variables.{var_count}
+use Rattle.encoding.specs.Variables.{var_count}
 use Rattle.refutation.specs.Steps.{NamesRows, Step}
 use Rattle.refutation.specs.Logs.{log_of, most_bytes}
 use Rattle.refutation.specs.Texts.{log_text, step_text, version_of}

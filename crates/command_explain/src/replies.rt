@@ -4,7 +4,7 @@ ghost use Rattle.std.specs.List.{All};
 ghost use Rattle.league.specs.Accepted.{IsAccepted};
 ghost use Rattle.league.specs.Counts.{counts_of};
 ghost use Rattle.circle_method.specs.Circle.{double_games};
-ghost use Rattle.encoding_base.specs.Variables.{var_count};
+ghost use Rattle.encoding.specs.Variables.{var_count};
 ghost use Rattle.robinx_form.specs.Texts as solutions;
 ghost use Rattle.answers.specs.SeenReply.{answer_of};
 ghost use Rattle.answers.specs.declared.status.Status.TheVariants as statuses;

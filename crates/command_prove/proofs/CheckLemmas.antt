@@ -3,7 +3,7 @@ use Rattle.std.proofs.Common.{◌≡◌, ℕ, ◌-◌, List, subst}
 use Rattle.std.proofs.lemmas.List.Elements.{All-weaker}
 use Rattle.league.specs.Instance.{Instance, IsInstance}
 use Rattle.rows.specs.Rows.{Row}
-use Rattle.encoding_base.specs.Known.{AreKnown, IsKnown}
+use Rattle.encoding.specs.Known.{AreKnown, IsKnown}
 use Rattle.refutation_check.specs.Soundness.{HaveNoSolution}
 use Rattle.refutation_check.specs.Within.{AreWithin, IsWithin}
 use Rattle.bound_rows.specs.BoundRows.{bound_rows, bound_vars}

@@ -21,7 +21,7 @@ use Rattle.refutation.specs.Steps.{Step}
 use Rattle.command_check.specs.Check.{most_log_bytes, says_log}
 use Rattle.command_check.proofs.AnswerLemmas.{IsAnswered, answered-as, log-answered, reads-answered, said-known, same_bytes}
 use Rattle.command_check.proofs.AnswerLemmas.{same_value, says-answered}
-use Rattle.encoding_base.specs.Variables.{var_count}
+use Rattle.encoding.specs.Variables.{var_count}
 use Rattle.refutation_check.specs.Room.{KeepsRoom}
 use Rattle.resume_rows.specs.Kept.{resume_rows, resume_size}
 use Rattle.resume_rows.specs.Resumable.{NoneResumes}

@@ -17,8 +17,8 @@ use Rattle.robinx_form.specs.Texts.{solution_text}
 use Rattle.robinx_write.proofs.SolutionLemmas.{solution-reads_back}
 use Rattle.solve.proofs.FewLemmas.{round_robin-few}
 use Rattle.rows.specs.Rows.{Row}
-use Rattle.encoding_base.specs.Variables.{h_count, has_breaks, hb_count, var_count, x_count}
-use Rattle.encoding_base.proofs.NumberLemmas.{x_count-few}
+use Rattle.encoding.specs.Variables.{h_count, has_breaks, hb_count, var_count, x_count}
+use Rattle.encoding.proofs.NumberLemmas.{x_count-few}
 use Rattle.answers.specs.SeenReply.{answer_of}
 use Rattle.answers.specs.declared.reply.Reply.{Reply}
 use Rattle.answers.specs.declared.status.Status.TheVariants.{Yes, Refuted, Spent}

@@ -16,7 +16,7 @@ use Rattle.answers.specs.Reply.{Answer}
 use Rattle.answers.specs.Stages.{NoneFails, Outcome}
 use Rattle.answers.specs.declared.status.Status.TheVariants.{Yes, No, File}
 use Rattle.answers.proofs.StageLemmas.{takes-known, says-known}
-use Rattle.encoding_base.specs.Variables.{var_count}
+use Rattle.encoding.specs.Variables.{var_count}
 use Rattle.refutation.specs.Logs.{lines_from, log_of}
 use Rattle.refutation.specs.Steps.{Step}
 use Rattle.refutation.specs.Steps.Step.{Clause}

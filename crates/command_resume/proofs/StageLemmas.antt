@@ -16,7 +16,7 @@ use Rattle.answers.specs.Reply.{Answer}
 use Rattle.answers.specs.SeenReply.{IsMalformed}
 use Rattle.answers.specs.Stages.{IsFile, IsUnread, Outcome, reads, says, takes}
 use Rattle.answers.proofs.StageLemmas.{says-value, takes-rest}
-use Rattle.encoding_base.specs.Variables.{var_count}
+use Rattle.encoding.specs.Variables.{var_count}
 use Rattle.refutation.specs.Logs.{Fault, log_of}
 use Rattle.refutation.specs.Steps.{Step}
 use Rattle.refutation.specs.Verdict.{verdict_of}

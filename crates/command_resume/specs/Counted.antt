@@ -4,7 +4,7 @@ use Rattle.std.specs.List.{All}
 use Rattle.league.specs.Counts.{counts_of}
 use Rattle.league.specs.Instance.{Instance}
 use Rattle.league.specs.declared.game.Game.{Game}
-use Rattle.encoding_base.specs.Variables.{var_count}
+use Rattle.encoding.specs.Variables.{var_count}
 use Rattle.refutation.specs.Steps.{NamesRows, Step}
 use Rattle.refutation.specs.Verdict.{verdict_of}
 use Rattle.refutation.specs.Writable.{HasShortLines}

@@ -13,7 +13,7 @@ use Rattle.robinx_form.specs.Texts.{solution_text}
 use Rattle.answers.specs.Reply.{Answer}
 use Rattle.answers.specs.Stages.{◌>>=◌, Outcome}
 use Rattle.answers.specs.declared.status.Status.TheVariants.{Yes, Refuted, Spent}
-use Rattle.encoding_base.specs.Variables.{var_count}
+use Rattle.encoding.specs.Variables.{var_count}
 use Rattle.refutation.specs.Steps.{Step}
 use Rattle.refutation.specs.Logs.{log_of}
 use Rattle.refutation.specs.Texts.{log_text}

@@ -9,7 +9,7 @@ use Rattle.std.proofs.Math.Seq.{drop-cons}
 use Rattle.rows.specs.Rows.{Row, Satisfies, SatisfiesAll, is_true, weight}
 use Rattle.rows.specs.Tests.{satisfied}
 use Rattle.rows.specs.declared.lit.Term.{Term}
-use Rattle.encoding_base.specs.Known.{AreKnown, IsKnown}
+use Rattle.encoding.specs.Known.{AreKnown, IsKnown}
 use Rattle.command_rows.specs.Valued.{missed_from}
 
 abbrev pub Values : Type 0

@@ -11,7 +11,7 @@ use Rattle.answers.proofs.StageLemmas.{says-value}
 use Rattle.command_check.specs.Check.{encodes, most_log_bytes}
 use Rattle.encoding.specs.Limit.{most_terms}
 use Rattle.rows.specs.Literals.{Literal}
-use Rattle.encoding_base.specs.Encoding.{encoding_size, rows_of}
+use Rattle.encoding.specs.Encoding.{encoding_size, rows_of}
 use Rattle.opb_forms.specs.Values.{values_of}
 use Rattle.command_rows.specs.Valued.{IsValued, found_of, says_values, valued}
 

@@ -5,7 +5,7 @@ use Rattle.league.specs.Accepted.{IsAccepted, objective}
 use Rattle.league.specs.Counts.{Counts, counts_of}
 use Rattle.league.specs.Instance.{Instance, IsInstance}
 use Rattle.rows.specs.Rows.{SatisfiesAll, weight}
-use Rattle.encoding_base.specs.Shadow.{decoded}
+use Rattle.encoding.specs.Shadow.{decoded}
 use Rattle.command_rows.specs.Rowed.{greatest_bound, least_system, prices}
 
 -- what satisfies the rows decodes to an accepted schedule with an objective of at most the sum

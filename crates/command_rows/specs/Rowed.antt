@@ -13,8 +13,8 @@ use Rattle.command_line.specs.declared.goal.Goal.{Goal}
 use Rattle.command_line.specs.declared.goal.Goal.TheVariants.{Accepted, AtMost, Least}
 use Rattle.rows.specs.Literals.{negate}
 use Rattle.rows.specs.declared.lit.Term.{Term}
-use Rattle.encoding_base.specs.Encoding.{rows_of}
-use Rattle.encoding_base.specs.Variables.{var_count}
+use Rattle.encoding.specs.Encoding.{rows_of}
+use Rattle.encoding.specs.Variables.{var_count}
 use Rattle.bound_rows.specs.BoundRows.{bound_rows, bound_vars, first_unit, league_groups}
 use Rattle.bound_rows.specs.Softening.{costs}
 use Rattle.command_prove.specs.Bound.{has_few_terms}

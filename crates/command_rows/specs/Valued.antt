@@ -18,8 +18,8 @@ use Rattle.rows.specs.Literals.{Literal}
 use Rattle.rows.specs.Rows.{Row}
 use Rattle.rows.specs.Tests.{satisfied}
 use Rattle.rows.specs.Values.{assigned}
-use Rattle.encoding_base.specs.Shadow.{decoded}
-use Rattle.encoding_base.specs.Variables.{var_count}
+use Rattle.encoding.specs.Shadow.{decoded}
+use Rattle.encoding.specs.Variables.{var_count}
 use Rattle.opb_forms.specs.Values.{value_in, values_of}
 
 -- ---- what is found

@@ -3,7 +3,7 @@ ghost use Rattle.std.specs.Prelude.{◌≡◌, ◌≤◌, if◌then◌else◌, l
 ghost use Rattle.rows.specs.Rows as meaning;
 ghost use Rattle.rows.specs.Tests.{satisfied};
 ghost use Rattle.rows.specs.Values.{assigned};
-ghost use Rattle.encoding_base.specs.Known.{AreKnown, IsKnown};
+ghost use Rattle.encoding.specs.Known.{AreKnown, IsKnown};
 ghost use Rattle.command_rows.specs.Valued as valued;
 
 use rows::{Assignment, Lit, RowStore, Term};

@@ -2,9 +2,9 @@
 ghost use Rattle.std.specs.Prelude.{◌≡◌, ◌≤◌, length, IfOk};
 ghost use Rattle.rows.specs.Rows.{SatisfiesAll};
 ghost use Rattle.rows.specs.Values.{assigned};
-ghost use Rattle.encoding_base.specs.Encoding.{rows_of};
-ghost use Rattle.encoding_base.specs.Known.{AreKnown};
-ghost use Rattle.encoding_base.specs.Variables.{var_count};
+ghost use Rattle.encoding.specs.Encoding.{rows_of};
+ghost use Rattle.encoding.specs.Known.{AreKnown};
+ghost use Rattle.encoding.specs.Variables.{var_count};
 ghost use Rattle.answers.specs.SeenReply.{answer_of};
 ghost use Rattle.command_rows.specs.Valued as valued;
 ghost use Rattle.command_rows.specs.Valued.{IsSeason, IsValued};

@@ -4,7 +4,7 @@ ghost use Rattle.robin_io.specs.Outside.{store_between};
 ghost use Rattle.answers.specs.SeenReply.{Answers, MatchStage};
 ghost use Rattle.command_check.specs.Check.{encodes, most_log_bytes};
 ghost use Rattle.answers.specs.Reply.{too_large};
-ghost use Rattle.encoding_base.specs.Encoding.{encoding_size, rows_of};
+ghost use Rattle.encoding.specs.Encoding.{encoding_size, rows_of};
 ghost use Rattle.opb_forms.specs.Values.{values_of};
 ghost use Rattle.command_rows.specs.Faults.{IsMalformed};
 ghost use Rattle.command_rows.specs.Valued.{IsValued, says_values, valued};

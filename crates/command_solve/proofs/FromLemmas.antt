@@ -23,7 +23,7 @@ use Rattle.answers.specs.declared.status.Status.TheVariants.{Yes, No, File, Read
 use Rattle.answers.proofs.StageLemmas.{first-works, says-known, says-value, second-works, takes-known, takes-refuted, takes-yes}
 use Rattle.robin_watch.specs.declared.budgets.Budgets.{Budgets}
 use Rattle.encoding.specs.Limit.{most_terms}
-use Rattle.encoding_base.specs.Encoding.{encoding_size, rows_of}
+use Rattle.encoding.specs.Encoding.{encoding_size, rows_of}
 use Rattle.decoding.specs.Excluded.{NoneAccepted}
 use Rattle.command_check.specs.Check.{encodes}
 use Rattle.command_check.proofs.AnswerLemmas.{encodes-small}

@@ -10,7 +10,7 @@ use Rattle.answers.specs.Stages.{Outcome, says}
 use Rattle.answers.specs.declared.status.Status.TheVariants.{Yes, File, Refuted, Spent}
 use Rattle.decoding.specs.Excluded.{NoneAccepted}
 use Rattle.answers.proofs.StageLemmas.{takes-known, takes-refuted, says-known}
-use Rattle.encoding_base.specs.Encoding.{encoding_size}
+use Rattle.encoding.specs.Encoding.{encoding_size}
 use Rattle.command_check.specs.Check.{encodes}
 use Rattle.command_check.proofs.AnswerLemmas.{encodes-small}
 use Rattle.command_solve.specs.Patterns.{AreFound, AreSearched, patterned}

@@ -6,8 +6,8 @@ use Rattle.std.specs.List.{All}
 use Rattle.std.proofs.lemmas.List.Elements.{All-push, All-weaker}
 use Rattle.league.specs.Instance.{Instance, IsInstance}
 use Rattle.league.specs.declared.class.Side.{Side}
-use Rattle.encoding_base.specs.Encoding.{rows_of}
-use Rattle.encoding_base.specs.Variables.{var_count, x_count}
+use Rattle.encoding.specs.Encoding.{rows_of}
+use Rattle.encoding.specs.Variables.{var_count, x_count}
 use Rattle.clause_search.proofs.TidyLemmas.{IsTidy-wider}
 use Rattle.answers.specs.SeenReply.{answer_of}
 use Rattle.answers.specs.declared.reply.Reply.{Reply}

@@ -14,7 +14,7 @@ use Rattle.answers.specs.Stages.{NoneFails, Outcome, says, takes}
 use Rattle.answers.specs.declared.status.Status.TheVariants.{Yes, File, Refuted, ReadFault, Spent}
 use Rattle.decoding.specs.Excluded.{NoneAccepted}
 use Rattle.answers.proofs.StageLemmas.{first-works, says-known, takes-known, takes-refuted}
-use Rattle.encoding_base.specs.Encoding.{rows_of}
+use Rattle.encoding.specs.Encoding.{rows_of}
 use Rattle.command_check.specs.Check.{encodes}
 use Rattle.command_check.proofs.AnswerLemmas.{encodes-small}
 use Rattle.command_solve.specs.Solve.{IsFound, IsFoundBy, IsWellFormedInstance, solved}

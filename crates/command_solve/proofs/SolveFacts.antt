@@ -23,8 +23,8 @@ use Rattle.robinx_form.specs.Walk.{walk}
 use Rattle.robinx_tags.specs.declared.fault.FormKind.TheVariants.{Truncated}
 use Rattle.answers.specs.Reply.{Answer}
 use Rattle.answers.specs.declared.status.Status.TheVariants.{Yes, Refuted, Spent}
-use Rattle.encoding_base.specs.Encoding.{encoding_size, rows_of}
-use Rattle.encoding_base.specs.Variables.{var_count}
+use Rattle.encoding.specs.Encoding.{encoding_size, rows_of}
+use Rattle.encoding.specs.Variables.{var_count}
 use Rattle.refutation.specs.Texts.{log_text}
 use Rattle.refutation.specs.Verdict.{verdict_of}
 use Rattle.refutation.specs.declared.verdict.Verdict.TheVariants.{Accepted}

@@ -15,7 +15,7 @@ use Rattle.answers.specs.Stages.{◌>>=◌, Outcome, reads, says}
 use Rattle.answers.specs.declared.status.Status.TheVariants.{No}
 use Rattle.rows.specs.Rows.{Row}
 use Rattle.encoding.specs.Limit.{most_terms}
-use Rattle.encoding_base.specs.Encoding.{encoding_size}
+use Rattle.encoding.specs.Encoding.{encoding_size}
 use Rattle.robin_watch.specs.declared.budgets.Budgets.{Budgets}
 use Rattle.command_check.specs.Check.{encodes}
 use Rattle.command_validate.specs.Validate.{IsJudgement, IsWellFormedPair}

@@ -18,8 +18,8 @@ use Rattle.answers.specs.Reply.{Answer}
 use Rattle.answers.specs.Stages.{◌>>=◌, Outcome, reads, says}
 use Rattle.answers.specs.declared.status.Status.TheVariants.{Yes, Refuted, Spent}
 use Rattle.rows.specs.Rows.{Row}
-use Rattle.encoding_base.specs.Encoding.{encoding_size}
-use Rattle.encoding_base.specs.Variables.{has_breaks, var_count}
+use Rattle.encoding.specs.Encoding.{encoding_size}
+use Rattle.encoding.specs.Variables.{has_breaks, var_count}
 use Rattle.refutation.specs.Steps.{Step}
 use Rattle.refutation.specs.Logs.{log_of}
 use Rattle.refutation.specs.Texts.{log_text}

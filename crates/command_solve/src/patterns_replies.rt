@@ -8,7 +8,7 @@ ghost use Rattle.refutation.specs.Logs.{log_of};
 ghost use Rattle.refutation.specs.Steps.{is_linear};
 ghost use Rattle.refutation.specs.Texts as logs;
 ghost use Rattle.encoding.specs.Limit.{most_terms};
-ghost use Rattle.encoding_base.specs.Encoding.{encoding_size};
+ghost use Rattle.encoding.specs.Encoding.{encoding_size};
 ghost use Rattle.break_counts.specs.BreakCounts.{are_few};
 ghost use Rattle.command_solve.specs.Patterns as texts;
 ghost use Rattle.command_solve.specs.Patterns.{AreFound, AreSearched};

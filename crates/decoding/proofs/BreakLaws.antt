@@ -13,8 +13,8 @@ use Rattle.rows.specs.Rows.{is_true}
 use Rattle.rows.specs.Tests.{true_count}
 use Rattle.rows.proofs.ListLemmas.{sum_by-agree}
 use Rattle.rows.proofs.TestLemmas.{true_count-append}
-use Rattle.encoding_base.specs.Demands.{br1_rows, br2_rows}
-use Rattle.encoding_base.specs.Lists.{away_breaks_at, breaks_in, home_breaks_at}
+use Rattle.encoding.specs.Demands.{br1_rows, br2_rows}
+use Rattle.encoding.specs.Lists.{away_breaks_at, breaks_in, home_breaks_at}
 use Rattle.decoding.specs.Below.{all_below}
 use Rattle.decoding.specs.Mirrors.{MirrorsBreaks}
 use Rattle.decoding.specs.Shortfalls.{units_needed}

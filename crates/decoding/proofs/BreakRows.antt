@@ -13,9 +13,9 @@ use Rattle.league.specs.Venues.{away_games, home_games}
 use Rattle.league.proofs.RangeLemmas.{one_if}
 use Rattle.rows.specs.Tests.{all_satisfied, satisfied}
 use Rattle.rows.proofs.ListLemmas.{list_all-flat_map, list_all-same}
-use Rattle.encoding_base.specs.Lists.{after_first}
-use Rattle.encoding_base.specs.Season.{break_rows, break_rows_at}
-use Rattle.encoding_base.specs.Variables.{ab_var, h_var, hb_var}
+use Rattle.encoding.specs.Lists.{after_first}
+use Rattle.encoding.specs.Season.{break_rows, break_rows_at}
+use Rattle.encoding.specs.Variables.{ab_var, h_var, hb_var}
 use Rattle.decoding.specs.Mirrors.{Mirrors, MirrorsBreaks}
 use Rattle.decoding.proofs.VenueLaws.{agree, agree-true, all_cells, each_cell, true-agree}
 

@@ -12,8 +12,8 @@ use Rattle.league.specs.declared.class.Side.{Side}
 use Rattle.league.specs.declared.class.Side.TheVariants.{H, A, Both}
 use Rattle.rows.specs.Tests.{all_satisfied, satisfied, true_count}
 use Rattle.rows.proofs.ListLemmas.{list_all-agree, list_all-flat_map, list_all-part, sum_by-agree}
-use Rattle.encoding_base.specs.Demands.{ca1_rows, ca2_rows, ca3_rows, ca4_rows, ga1_rows}
-use Rattle.encoding_base.specs.Lists.{games_in, meetings_in_order, venues_in}
+use Rattle.encoding.specs.Demands.{ca1_rows, ca2_rows, ca3_rows, ca4_rows, ga1_rows}
+use Rattle.encoding.specs.Lists.{games_in, meetings_in_order, venues_in}
 use Rattle.decoding.specs.Below.{all_below}
 use Rattle.decoding.specs.Mirrors.{Mirrors}
 use Rattle.decoding.specs.Shortfalls.{units_needed}

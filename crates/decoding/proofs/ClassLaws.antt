@@ -22,9 +22,9 @@ use Rattle.league.proofs.AscendingLemmas.{first_true}
 use Rattle.rows.specs.Rows.{Row}
 use Rattle.rows.specs.Tests.{all_satisfied}
 use Rattle.rows.proofs.ListLemmas.{list_all-agree, list_all-weaker}
-use Rattle.encoding_base.specs.Demands.{br1_rows, br2_rows, ca1_rows, ca2_rows, ca3_rows, ca4_rows, fa2_rows, ga1_rows}
-use Rattle.encoding_base.specs.Demands.{rows_by_key, se1_rows}
-use Rattle.encoding_base.specs.Variables.{bounds_breaks}
+use Rattle.encoding.specs.Demands.{br1_rows, br2_rows, ca1_rows, ca2_rows, ca3_rows, ca4_rows, fa2_rows, ga1_rows}
+use Rattle.encoding.specs.Demands.{rows_by_key, se1_rows}
+use Rattle.encoding.specs.Variables.{bounds_breaks}
 use Rattle.decoding.specs.Below.{all_below}
 use Rattle.decoding.specs.Mirrors.{Mirrors, MirrorsBreaks}
 use Rattle.decoding.specs.Shortfalls.{all_zero, units_needed}

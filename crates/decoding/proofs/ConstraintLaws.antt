@@ -16,9 +16,9 @@ use Rattle.league.specs.declared.class.Constraint.{Constraint}
 use Rattle.rows.specs.Rows.{Row, weight}
 use Rattle.rows.specs.Tests.{all_satisfied, satisfied}
 use Rattle.rows.proofs.ListLemmas.{list_all-filter, list_all-flat_map}
-use Rattle.encoding_base.specs.Demands.{rows_by_key}
-use Rattle.encoding_base.specs.Encoding.{class_rows, constraint_rows, demands}
-use Rattle.encoding_base.specs.Variables.{bounds_breaks, has_breaks}
+use Rattle.encoding.specs.Demands.{rows_by_key}
+use Rattle.encoding.specs.Encoding.{class_rows, constraint_rows, demands}
+use Rattle.encoding.specs.Variables.{bounds_breaks, has_breaks}
 use Rattle.decoding.specs.Mirrors.{Mirrors, MirrorsBreaks}
 use Rattle.decoding.specs.Shortfalls.{all_zero, meets_hard}
 use Rattle.decoding.proofs.ClassLaws.{class_law}

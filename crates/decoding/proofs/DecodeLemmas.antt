@@ -13,10 +13,10 @@ use Rattle.league.specs.declared.game.Game.{Game}
 use Rattle.league.proofs.RangeLemmas.{range_with_len-more}
 use Rattle.league.proofs.ListLemmas.{flat_map-same}
 use Rattle.rows.specs.Rows.{SatisfiesAll}
-use Rattle.encoding_base.specs.Encoding.{rows_of}
-use Rattle.encoding_base.specs.Shadow.{decoded, game_of}
-use Rattle.encoding_base.specs.Variables.{x_var}
-use Rattle.encoding_base.proofs.KeyRowLemmas.{filter-flat_map}
+use Rattle.encoding.specs.Encoding.{rows_of}
+use Rattle.encoding.specs.Shadow.{decoded, game_of}
+use Rattle.encoding.specs.Variables.{x_var}
+use Rattle.encoding.proofs.KeyRowLemmas.{filter-flat_map}
 use Rattle.decoding.specs.TrueGames.{true_games_in, true_home_games}
 use Rattle.decoding.proofs.Faithful.{accepted-from_rows}
 use Rattle.decoding.proofs.OrderOfGames.{IsInOrder-decoded}

@@ -10,8 +10,8 @@ use Rattle.league.specs.declared.game.Game.{Game}
 use Rattle.league.proofs.MeetingLemmas.{sum_by-meetings_of}
 use Rattle.league.proofs.RangeLemmas.{one_if, sum_by-range_more}
 use Rattle.league.proofs.SumLemmas.{sum_by-filter, sum_by-flat_map, sum_by-map, sum_by-same}
-use Rattle.encoding_base.specs.Shadow.{all_games, decoded, game_of}
-use Rattle.encoding_base.specs.Variables.{x_var}
+use Rattle.encoding.specs.Shadow.{all_games, decoded, game_of}
+use Rattle.encoding.specs.Variables.{x_var}
 
 -- one number more, which is j or isn't
 picked_here : (g j k so_far more : ℕ) → k ≡ j → so_far ≡ (if nat_lt j k then g else 0) → more ≡ so_far + g →

@@ -6,8 +6,8 @@ use Rattle.league.specs.Counts.{Counts, slot_count}
 use Rattle.league.specs.Fairness.{fa2_entry, home_played}
 use Rattle.rows.specs.Tests.{true_count}
 use Rattle.rows.proofs.TestLemmas.{true_count-append}
-use Rattle.encoding_base.specs.Demands.{fa2_rows, fa2_rows_at}
-use Rattle.encoding_base.specs.Lists.{at_home_in, away_in, slots_up_to}
+use Rattle.encoding.specs.Demands.{fa2_rows, fa2_rows_at}
+use Rattle.encoding.specs.Lists.{at_home_in, away_in, slots_up_to}
 use Rattle.decoding.specs.Below.{all_below}
 use Rattle.decoding.specs.Mirrors.{Mirrors}
 use Rattle.decoding.specs.Shortfalls.{shortfall, units_needed}

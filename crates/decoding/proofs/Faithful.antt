@@ -6,10 +6,10 @@ use Rattle.league.specs.Instance.{Instance}
 use Rattle.league.proofs.RangeLemmas.{one_if}
 use Rattle.rows.specs.Rows.{SatisfiesAll}
 use Rattle.rows.proofs.TestLemmas.{SatisfiesAll-from_true, all_satisfied-true}
-use Rattle.encoding_base.specs.Encoding.{constraint_rows, rows_of, season_rows}
-use Rattle.encoding_base.specs.Season.{break_rows}
-use Rattle.encoding_base.specs.Shadow.{decoded}
-use Rattle.encoding_base.specs.Variables.{has_breaks, x_var}
+use Rattle.encoding.specs.Encoding.{constraint_rows, rows_of, season_rows}
+use Rattle.encoding.specs.Season.{break_rows}
+use Rattle.encoding.specs.Shadow.{decoded}
+use Rattle.encoding.specs.Variables.{has_breaks, x_var}
 use Rattle.decoding.specs.Faithful.{AcceptedHaveShadows, AnswersAreAccepted, AnswersAreShadows, ShadowsDecode}
 use Rattle.decoding.specs.Faithful.{ShadowsSatisfy}
 use Rattle.decoding.proofs.ConstraintLaws.{MeetsHard-from_true, all_fit, constraints_law, meets_hard-true}

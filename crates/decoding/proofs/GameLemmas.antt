@@ -17,8 +17,8 @@ use Rattle.league.proofs.RangeLemmas.{one_if}
 use Rattle.league.proofs.RoundRobinLemmas.{meets_once}
 use Rattle.league.proofs.SumLemmas.{sum_by-filter, sum_by-flat_map, sum_by-map, sum_by-same}
 use Rattle.league.proofs.OneTermLemmas.{All-flat_map, All-range, sum_by-range_same, sum_by-swap}
-use Rattle.encoding_base.specs.Shadow.{all_games, decoded, game_of}
-use Rattle.encoding_base.specs.Variables.{x_var}
+use Rattle.encoding.specs.Shadow.{all_games, decoded, game_of}
+use Rattle.encoding.specs.Variables.{x_var}
 use Rattle.decoding.proofs.DecodedCounts.{counts_of-decoded_game}
 use Rattle.decoding.proofs.MeetingLists.{meeting_parts, meetings_of-fit}
 

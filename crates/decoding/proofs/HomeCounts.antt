@@ -19,9 +19,9 @@ use Rattle.rows.specs.Rows.{is_true}
 use Rattle.rows.specs.Tests.{all_satisfied, satisfied, true_count}
 use Rattle.rows.proofs.ListLemmas.{list_all-flat_map, list_all-range, sum_by-agree}
 use Rattle.rows.proofs.TestLemmas.{satisfied-exactly}
-use Rattle.encoding_base.specs.Lists.{at_home_in}
-use Rattle.encoding_base.specs.Season.{slot_rows, team_rows}
-use Rattle.encoding_base.specs.Variables.{h_var}
+use Rattle.encoding.specs.Lists.{at_home_in}
+use Rattle.encoding.specs.Season.{slot_rows, team_rows}
+use Rattle.encoding.specs.Variables.{h_var}
 use Rattle.decoding.specs.Mirrors.{Mirrors}
 use Rattle.decoding.proofs.MeetingLists.{teams_of-fit}
 use Rattle.decoding.proofs.SeasonLaws.{PlaysOthers, slots_of-fit}

@@ -18,8 +18,8 @@ use Rattle.rows.specs.Rows.{is_true}
 use Rattle.rows.specs.Tests.{true_count}
 use Rattle.rows.proofs.ListLemmas.{list_all-flat_map, list_all-map-filter, list_all-range, list_all-weaker}
 use Rattle.rows.proofs.ListLemmas.{sum_by-agree}
-use Rattle.encoding_base.specs.Lists.{games_in, meetings_in_order}
-use Rattle.encoding_base.specs.Variables.{x_var}
+use Rattle.encoding.specs.Lists.{games_in, meetings_in_order}
+use Rattle.encoding.specs.Variables.{x_var}
 use Rattle.decoding.specs.Below.{all_below}
 use Rattle.decoding.specs.Mirrors.{MirrorsGames}
 

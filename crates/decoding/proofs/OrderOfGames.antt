@@ -16,8 +16,8 @@ use Rattle.league.specs.declared.game.Game.{Game}
 use Rattle.league.proofs.AscendingLemmas.{IsAscending-ascends, ascends-true}
 use Rattle.league.proofs.NumberSets.{nat_cmp-less}
 use Rattle.rows.proofs.ListLemmas.{list_all-flat_map, list_all-range, list_all-weaker}
-use Rattle.encoding_base.specs.Shadow.{all_games, decoded, game_of}
-use Rattle.encoding_base.specs.Variables.{x_var}
+use Rattle.encoding.specs.Shadow.{all_games, decoded, game_of}
+use Rattle.encoding.specs.Variables.{x_var}
 
 -- a test that everything passes
 list_all-always : {X : Type 0} (p : X → Bool) → ((x : X) → p x ≡ true) → (xs : List X) → list_all p xs ≡ true

@@ -22,8 +22,8 @@ use Rattle.rows.specs.Cardinality.{exactly}
 use Rattle.rows.specs.Tests.{all_satisfied, satisfied}
 use Rattle.rows.proofs.ListLemmas.{list_all-agree, list_all-flat_map, list_all-range, list_all-same}
 use Rattle.rows.proofs.TestLemmas.{satisfied-exactly}
-use Rattle.encoding_base.specs.Lists.{games_in, meetings_in_order}
-use Rattle.encoding_base.specs.Season.{cell_rows, cell_rows_at, half_rows, meeting_rows}
+use Rattle.encoding.specs.Lists.{games_in, meetings_in_order}
+use Rattle.encoding.specs.Season.{cell_rows, cell_rows_at, half_rows, meeting_rows}
 use Rattle.decoding.specs.Below.{all_below}
 use Rattle.decoding.specs.Mirrors.{MirrorsGames}
 use Rattle.decoding.proofs.MeetingLists.{games_listed, meetings_in_order-fit, meetings_of-fit, sum_by-in_order}

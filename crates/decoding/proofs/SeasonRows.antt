@@ -15,10 +15,10 @@ use Rattle.league.proofs.RangeLemmas.{one_if}
 use Rattle.league.proofs.RoundRobinLemmas.{IsPlayedOnce-of, plays_once}
 use Rattle.rows.specs.Rows.{Row}
 use Rattle.rows.specs.Tests.{all_satisfied, satisfied}
-use Rattle.encoding_base.specs.Season.{break_rows, cell_rows, half_rows, meeting_rows, slot_rows, team_rows, venue_rows}
-use Rattle.encoding_base.specs.Encoding.{season_rows}
-use Rattle.encoding_base.specs.Shadow.{IsShadow, decoded}
-use Rattle.encoding_base.specs.Variables.{h_var, x_var}
+use Rattle.encoding.specs.Season.{break_rows, cell_rows, half_rows, meeting_rows, slot_rows, team_rows, venue_rows}
+use Rattle.encoding.specs.Encoding.{season_rows}
+use Rattle.encoding.specs.Shadow.{IsShadow, decoded}
+use Rattle.encoding.specs.Variables.{h_var, x_var}
 use Rattle.decoding.specs.Mirrors.{Mirrors, MirrorsBreaks, MirrorsGames}
 use Rattle.decoding.proofs.BreakRows.{MirrorsBreaks-from_rows, break_rows-met}
 use Rattle.decoding.proofs.DecodedCounts.{counts_of-decoded_game, counts_of-decoded_itself}

@@ -17,9 +17,9 @@ use Rattle.rows.specs.Cardinality.{at_most}
 use Rattle.rows.specs.Tests.{all_satisfied, satisfied, true_count}
 use Rattle.rows.proofs.ListLemmas.{list_all-agree, list_all-weaker, sum_by-range-part}
 use Rattle.rows.proofs.TestLemmas.{satisfied-at_most}
-use Rattle.encoding_base.specs.Demands.{se1_rows, separation_windows}
-use Rattle.encoding_base.specs.Lists.{games_in}
-use Rattle.encoding_base.specs.Variables.{h_var}
+use Rattle.encoding.specs.Demands.{se1_rows, separation_windows}
+use Rattle.encoding.specs.Lists.{games_in}
+use Rattle.encoding.specs.Variables.{h_var}
 use Rattle.decoding.specs.Below.{all_below}
 use Rattle.decoding.specs.Mirrors.{Mirrors}
 use Rattle.decoding.proofs.GapLemmas.{lacking-windows}

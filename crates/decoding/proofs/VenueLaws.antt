@@ -23,9 +23,9 @@ use Rattle.rows.specs.Tests.{all_satisfied, satisfied, true_count}
 use Rattle.rows.specs.declared.lit.Term.{Term}
 use Rattle.rows.proofs.ListLemmas.{list_all-agree, list_all-at, list_all-flat_map, list_all-range}
 use Rattle.rows.proofs.TestLemmas.{satisfied-at_least, true_count-append, true_count-negate, weight-units}
-use Rattle.encoding_base.specs.Season.{game_needs_home, home_games_in, home_needs_game}
-use Rattle.encoding_base.specs.Season.{venue_rows}
-use Rattle.encoding_base.specs.Variables.{h_var, x_var}
+use Rattle.encoding.specs.Season.{game_needs_home, home_games_in, home_needs_game}
+use Rattle.encoding.specs.Season.{venue_rows}
+use Rattle.encoding.specs.Variables.{h_var, x_var}
 use Rattle.decoding.specs.Mirrors.{MirrorsGames}
 use Rattle.decoding.proofs.DecodedCounts.{pick}
 use Rattle.decoding.proofs.MeetingLists.{games_listed, meetings_with-fit, teams_of-fit}

@@ -19,9 +19,9 @@ use Rattle.rows.specs.Rows.{is_true}
 use Rattle.rows.specs.Tests.{true_count}
 use Rattle.rows.proofs.ListLemmas.{list_all-range, sum_by-agree}
 use Rattle.rows.proofs.TestLemmas.{true_count-append, true_count-negate}
-use Rattle.encoding_base.specs.Lists.{after_first, at_home_in, away_breaks_at, away_in, breaks_in, home_breaks_at}
-use Rattle.encoding_base.specs.Lists.{slots_up_to}
-use Rattle.encoding_base.specs.Variables.{ab_var, h_var, hb_var}
+use Rattle.encoding.specs.Lists.{after_first, at_home_in, away_breaks_at, away_in, breaks_in, home_breaks_at}
+use Rattle.encoding.specs.Lists.{slots_up_to}
+use Rattle.encoding.specs.Variables.{ab_var, h_var, hb_var}
 use Rattle.decoding.specs.Below.{all_below}
 use Rattle.decoding.specs.Mirrors.{Mirrors, MirrorsBreaks}
 

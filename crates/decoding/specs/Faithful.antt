@@ -6,9 +6,9 @@ use Rattle.league.specs.Counts.{Counts, counts_of, slot_count}
 use Rattle.league.specs.Instance.{Instance, IsInstance}
 use Rattle.league.specs.Structure.{cells_wrong}
 use Rattle.rows.specs.Rows.{SatisfiesAll}
-use Rattle.encoding_base.specs.Encoding.{rows_of}
-use Rattle.encoding_base.specs.Shadow.{IsShadow, decoded}
-use Rattle.encoding_base.specs.Variables.{has_breaks}
+use Rattle.encoding.specs.Encoding.{rows_of}
+use Rattle.encoding.specs.Shadow.{IsShadow, decoded}
+use Rattle.encoding.specs.Variables.{has_breaks}
 
 -- an accepted schedule's shadow satisfies every row
 abbrev pub ShadowsSatisfy : Type 0

@@ -1,7 +1,7 @@
 -- Which variables a game makes true in the shadow of a schedule.
 use Rattle.std.specs.Prelude.{ℕ, ◌-◌, Bool, ◌&&◌, ◌==◌, nat_lt}
 use Rattle.league.specs.declared.game.Game.{Game}
-use Rattle.encoding_base.specs.Variables.{ab_var, h_var, hb_var, x_var}
+use Rattle.encoding.specs.Variables.{ab_var, h_var, hb_var, x_var}
 
 -- whether a variable is that of the game
 abbrev pub marks_game : ℕ → ℕ → Game → Bool

@@ -3,7 +3,7 @@ use Rattle.std.specs.Prelude.{◌≡◌, ◌≢◌, ℕ, ◌<◌, Bool, not, if�
 use Rattle.league.specs.Breaks.{is_away_break, is_home_break}
 use Rattle.league.specs.Counts.{Counts, slot_count}
 use Rattle.league.specs.Venues.{away_games, home_games}
-use Rattle.encoding_base.specs.Variables.{ab_var, h_var, hb_var, x_var}
+use Rattle.encoding.specs.Variables.{ab_var, h_var, hb_var, x_var}
 
 -- each game is played once where its variable is true, and else not
 abbrev pub MirrorsGames : ℕ → Counts → (ℕ → Bool) → Type 0

@@ -3,8 +3,8 @@ use Rattle.std.specs.Prelude.{ℕ, Bool, not, ◌&&◌, ◌==◌, if◌then◌el
 use Rattle.std.specs.List.{flat_map}
 use Rattle.league.specs.Counts.{teams_of}
 use Rattle.league.specs.declared.game.Game.{Game}
-use Rattle.encoding_base.specs.Shadow.{game_of}
-use Rattle.encoding_base.specs.Variables.{x_var}
+use Rattle.encoding.specs.Shadow.{game_of}
+use Rattle.encoding.specs.Variables.{x_var}
 
 -- the game of two different teams, where its variable is true
 abbrev pub true_game : ℕ → (ℕ → Bool) → Game → List Game

@@ -8,9 +8,9 @@ ghost use Rattle.league.specs.Instance.{IsGame};
 ghost use Rattle.league.specs.Venues.{away_games, home_games};
 ghost use Rattle.rows.specs.Rows.{SatisfiesAll};
 ghost use Rattle.rows.specs.Values.{assigned};
-ghost use Rattle.encoding_base.specs.Encoding.{rows_of};
-ghost use Rattle.encoding_base.specs.Shadow.{IsShadow};
-ghost use Rattle.encoding_base.specs.Variables.{ab_var, h_count, h_var, has_breaks, hb_var, var_count, x_count};
+ghost use Rattle.encoding.specs.Encoding.{rows_of};
+ghost use Rattle.encoding.specs.Shadow.{IsShadow};
+ghost use Rattle.encoding.specs.Variables.{ab_var, h_count, h_var, has_breaks, hb_var, var_count, x_count};
 ghost use Rattle.decoding.specs.Marks.{marks_away, marks_away_break, marks_game, marks_home, marks_home_break};
 
 use encoding::Encoding;

@@ -1,32 +1,12 @@
-//! The deviation vectors of all nine classes, and the assessment of a schedule by a league.
+//! The deviation vectors of all nine classes of constraints, and the assessment of a schedule by a league.
+//!
+//! Each class is made from a constraint, and is then a `Rule` for every ledger. Its entries are those of the
+//! constraint's deviation vector, as `league` defines it: `ca1` to `ca4` count games of teams in slots, `ga1` games of
+//! meetings, `br1` and `br2` breaks, `fa2` how far two teams' home games are apart, and `se1` the slots between the
+//! games of a pair.
 //!
 //! A contract sees an assessment by the definitions of `league`: the three counts of what a schedule lacks of a double
 //! round robin, the vector of each constraint, what they cost, and whether the league accepts the schedule.
-//!
-//! The capacity constraints: from so many to so many games of some teams in some slots.
-//!
-//! Each class is made from a constraint, and is then a `Rule` for every ledger. Its entries are those of the
-//! constraint's deviation vector, as `league` defines it.
-//!
-//! The game constraint: from so many to so many games of some meetings in some slots.
-//!
-//! The rule is made from a constraint, and is then a `Rule` for every ledger. Its entry is that of the constraint's
-//! deviation vector, as `league` defines it.
-//!
-//! The break constraints: at most so many breaks, of each of some teams or of all of them together.
-//!
-//! Each class is made from a constraint, and is then a `Rule` for every ledger. Its entries are those of the
-//! constraint's deviation vector, as `league` defines it.
-//!
-//! The fairness constraint: at no time have two teams played very different numbers of home games.
-//!
-//! The class is made from a constraint, and is then a `Rule` for every ledger. Its entries are those of the
-//! constraint's deviation vector, as `league` defines it.
-//!
-//! The separation constraint: at least so many slots between the games of the same two teams.
-//!
-//! `Se1` is made from a constraint, and is then a `Rule` for every ledger. Its entries are those of the constraint's
-//! deviation vector, as `league` defines it.
 #![tactic(auto)]
 
 mod any_rule;

@@ -27,28 +27,28 @@ use Rattle.rows.specs.Cardinality.{at_least, at_most, between, exactly, unit}
 use Rattle.rows.specs.Literals.{Literal, negate, no, yes}
 use Rattle.rows.specs.Rows.{Row}
 use Rattle.rows.specs.declared.lit.Term.{Term}
-use Rattle.encoding_base.specs.Ascending.{AreMeetings, AreSlots, AreTeams, AscendsBy}
-use Rattle.encoding_base.specs.Demands.{br1_rows, ca1_rows, ca2_rows, ca3_rows, ca4_rows, fa2_rows, fa2_rows_at}
-use Rattle.encoding_base.specs.Demands.{se1_rows, separation_windows}
-use Rattle.encoding_base.specs.Encoding.{class_rows, constraint_rows, demands, rows_of, season_rows}
-use Rattle.encoding_base.specs.Known.{AreKnown, IsKnown}
-use Rattle.encoding_base.specs.Lists.{after_first, at_home_in, away_breaks_at, away_in, breaks_in, home_breaks_at}
-use Rattle.encoding_base.specs.Lists.{games_in, meetings_in_order, slots_up_to, venues_in}
-use Rattle.encoding_base.specs.Season.{both_needed, break_rows, break_rows_at, cell_rows, cell_rows_at, game_needs_home}
-use Rattle.encoding_base.specs.Season.{half_rows, home_games_in, home_needs_game, meeting_rows, neither_needed, slot_rows}
-use Rattle.encoding_base.specs.Season.{team_rows, venue_rows}
-use Rattle.encoding_base.specs.Variables.{ab_var, bounds_breaks, h_count, h_var, has_breaks, hb_count, hb_var, var_count}
-use Rattle.encoding_base.specs.Variables.{x_count}
-use Rattle.encoding_base.proofs.AscendLemmas.{AscendsBy-above, AscendsBy-below, AscendsBy-high}
-use Rattle.encoding_base.proofs.AscendLemmas.{AscendsBy-low, AscendsBy-map, AscendsBy-range}
-use Rattle.encoding_rows.proofs.LiteralOrder.{all_breaks_ascend, away_ascend, away_break_base, breaks_ascend, games_ascend}
-use Rattle.encoding_rows.proofs.LiteralOrder.{home_ascend, home_base, home_break_base, lead_ascend, lead_back_ascend}
-use Rattle.encoding_rows.proofs.LiteralOrder.{teams_ascend}
-use Rattle.encoding_base.proofs.MeetingOrder.{AreMeetings-all, AreMeetings-both, AreMeetings-filter, AreMeetings-from_test}
-use Rattle.encoding_base.proofs.MeetingOrder.{AreMeetings-in_order, AreMeetings-one, AreSlots-all, AreSlots-from_test}
-use Rattle.encoding_base.proofs.MeetingOrder.{AreTeams-all, AreTeams-from_test, meetings_with-both, pairs_of-in_order}
-use Rattle.encoding_base.proofs.Places.{b_place-below, ab_var-place, h_place-below, h_var-place, hb_var-place}
-use Rattle.encoding_rows.proofs.TieLemmas.{AreSlots-one, game_tie_ascend, home_tie_ascend}
+use Rattle.encoding.specs.Ascending.{AreMeetings, AreSlots, AreTeams, AscendsBy}
+use Rattle.encoding.specs.Demands.{br1_rows, ca1_rows, ca2_rows, ca3_rows, ca4_rows, fa2_rows, fa2_rows_at}
+use Rattle.encoding.specs.Demands.{se1_rows, separation_windows}
+use Rattle.encoding.specs.Encoding.{class_rows, constraint_rows, demands, rows_of, season_rows}
+use Rattle.encoding.specs.Known.{AreKnown, IsKnown}
+use Rattle.encoding.specs.Lists.{after_first, at_home_in, away_breaks_at, away_in, breaks_in, home_breaks_at}
+use Rattle.encoding.specs.Lists.{games_in, meetings_in_order, slots_up_to, venues_in}
+use Rattle.encoding.specs.Season.{both_needed, break_rows, break_rows_at, cell_rows, cell_rows_at, game_needs_home}
+use Rattle.encoding.specs.Season.{half_rows, home_games_in, home_needs_game, meeting_rows, neither_needed, slot_rows}
+use Rattle.encoding.specs.Season.{team_rows, venue_rows}
+use Rattle.encoding.specs.Variables.{ab_var, bounds_breaks, h_count, h_var, has_breaks, hb_count, hb_var, var_count}
+use Rattle.encoding.specs.Variables.{x_count}
+use Rattle.encoding.proofs.AscendLemmas.{AscendsBy-above, AscendsBy-below, AscendsBy-high}
+use Rattle.encoding.proofs.AscendLemmas.{AscendsBy-low, AscendsBy-map, AscendsBy-range}
+use Rattle.encoding.proofs.LiteralOrder.{all_breaks_ascend, away_ascend, away_break_base, breaks_ascend, games_ascend}
+use Rattle.encoding.proofs.LiteralOrder.{home_ascend, home_base, home_break_base, lead_ascend, lead_back_ascend}
+use Rattle.encoding.proofs.LiteralOrder.{teams_ascend}
+use Rattle.encoding.proofs.MeetingOrder.{AreMeetings-all, AreMeetings-both, AreMeetings-filter, AreMeetings-from_test}
+use Rattle.encoding.proofs.MeetingOrder.{AreMeetings-in_order, AreMeetings-one, AreSlots-all, AreSlots-from_test}
+use Rattle.encoding.proofs.MeetingOrder.{AreTeams-all, AreTeams-from_test, meetings_with-both, pairs_of-in_order}
+use Rattle.encoding.proofs.Places.{b_place-below, ab_var-place, h_place-below, h_var-place, hb_var-place}
+use Rattle.encoding.proofs.TieLemmas.{AreSlots-one, game_tie_ascend, home_tie_ascend}
 
 abbrev var_of : Literal → ℕ
 var_of l = l.var

@@ -4,9 +4,9 @@ use Rattle.std.proofs.lemmas.List.FromFn.{get_or-map-range_with_len, length-map-
 use Rattle.std.specs.List.{slice_range}
 use Rattle.std.specs.List.Sorted.{IsNonDecreasingBy}
 use Rattle.league.specs.Instance.{Instance}
-use Rattle.encoding_base.proofs.RowRangeLemmas.{first_row-order, rows-range}
-use Rattle.encoding_base.specs.Encoding.{rows_of}
-use Rattle.encoding_base.specs.RowRanges.{IsRowOf, first_row, first_rows, rows_of_constraint}
+use Rattle.encoding.proofs.RowRangeLemmas.{first_row-order, rows-range}
+use Rattle.encoding.specs.Encoding.{rows_of}
+use Rattle.encoding.specs.RowRanges.{IsRowOf, first_row, first_rows, rows_of_constraint}
 
 -- there is a beginning for each constraint, and the end of the last one
 pub starts-long : (league : Instance) (starts : List ℕ) → starts ≡ first_rows league

@@ -2,9 +2,9 @@
 use Rattle.std.specs.Prelude.{◌≡◌, ℕ, Bool, List}
 use Rattle.league.specs.Instance.{Instance}
 use Rattle.rows.specs.Rows.{Row}
-use Rattle.encoding_base.specs.Encoding.{rows_of}
-use Rattle.encoding_base.specs.RowRanges.{first_rows}
-use Rattle.encoding_base.specs.Variables.{has_breaks}
+use Rattle.encoding.specs.Encoding.{rows_of}
+use Rattle.encoding.specs.RowRanges.{first_rows}
+use Rattle.encoding.specs.Variables.{has_breaks}
 
 -- the league's rows, whether its breaks have variables, and where the rows of each constraint begin
 pub record IsEncoded (league : Instance) (rows : List Row) (breaks : Bool) (starts : List ℕ) : Type 0 where

@@ -1,12 +1,12 @@
 //! From a league to its encoding.
 ghost use Rattle.std.specs.Prelude.{◌≡◌, ◌<◌, ◌≤◌, IfOk, IsErr};
-ghost use Rattle.encoding_base.specs.Encoding.{encoding_size};
+ghost use Rattle.encoding.specs.Encoding.{encoding_size};
 ghost use Rattle.encoding.specs.Limit.{KeepsLimit, most_terms};
 
 use crate::encoding::Encoding;
-use encoding_base::has_breaks;
-use encoding_rows::{Written, write_rows};
-use encoding_sizes::encoding_size;
+use crate::totals::encoding_size;
+use crate::variables::has_breaks;
+use crate::writer::{Written, write_rows};
 use league::League;
 use std::alloc::{AllocError, Global};
 use thiserror::Error;

@@ -3,13 +3,13 @@ ghost use Rattle.std.specs.Prelude.{◌≡◌, ◌≢◌, ℕ, ◌+◌, ◌<◌,
 ghost use Rattle.std.specs.List.{slice_range};
 ghost use Rattle.league.specs.Counts as counts;
 ghost use Rattle.league.specs.Instance.{IsInstance};
-ghost use Rattle.encoding_base.specs.Encoding.{rows_of};
-ghost use Rattle.encoding_base.specs.Known.{AreKnown};
-ghost use Rattle.encoding_base.specs.RowRanges.{IsRowOf, first_row, rows_of_constraint};
-ghost use Rattle.encoding_base.specs.Variables.{ab_var, h_var, has_breaks, hb_var, var_count, x_var};
+ghost use Rattle.encoding.specs.Encoding.{rows_of};
+ghost use Rattle.encoding.specs.Known.{AreKnown};
+ghost use Rattle.encoding.specs.RowRanges.{IsRowOf, first_row, rows_of_constraint};
+ghost use Rattle.encoding.specs.Variables.{ab_var, h_var, has_breaks, hb_var, var_count, x_var};
 
 use crate::places::count_at_most;
-use encoding_base::{ab_at, h_at, h_count, hb_at, hb_count, x_at, x_count};
+use crate::variables::{ab_at, h_at, h_count, hb_at, hb_count, x_at, x_count};
 use league::{League, SlotId, TeamId, slot_count};
 use rows::RowStore;
 use std::marker::Model;

@@ -11,7 +11,7 @@ use Rattle.rows.specs.Cardinality.{at_least}
 use Rattle.rows.specs.Literals.{Literal, no, yes}
 use Rattle.rows.specs.Rows.{Row, size_of}
 use Rattle.rows.specs.declared.lit.Term.{Term}
-use Rattle.encoding_base.specs.Variables.{var_count}
+use Rattle.encoding.specs.Variables.{var_count}
 use Rattle.refutation.specs.Steps.Step.{Clause}
 use Rattle.refutation.specs.Verdict.{verdict_of}
 use Rattle.refutation.specs.declared.verdict.Verdict.TheVariants.{Accepted}

@@ -37,8 +37,8 @@ use Rattle.rows.specs.Values.{assigned, valued}
 use Rattle.rows.specs.declared.partial.Value.{Value}
 use Rattle.rows.specs.declared.partial.Value.TheVariants.{True, False}
 use Rattle.rows.proofs.TestLemmas.{SatisfiesAll-from_true}
-use Rattle.encoding_base.specs.Encoding.{rows_of}
-use Rattle.encoding_base.specs.Variables.{h_var, var_count}
+use Rattle.encoding.specs.Encoding.{rows_of}
+use Rattle.encoding.specs.Variables.{h_var, var_count}
 use Rattle.refutation.specs.Following.{all_free, row_numbered}
 use Rattle.refutation.specs.Logs.{lines_from, log_of}
 use Rattle.refutation.specs.Steps.{Step}

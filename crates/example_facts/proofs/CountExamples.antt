@@ -12,8 +12,8 @@ use Rattle.league.specs.declared.class.Side.TheVariants.{H}
 use Rattle.rows.specs.Cardinality.{at_least}
 use Rattle.rows.specs.Literals.{yes, no}
 use Rattle.rows.specs.Rows.{Row}
-use Rattle.encoding_base.specs.Encoding.{rows_of}
-use Rattle.encoding_base.specs.Variables.{var_count}
+use Rattle.encoding.specs.Encoding.{rows_of}
+use Rattle.encoding.specs.Variables.{var_count}
 use Rattle.refutation.specs.Logs.{most_bytes}
 use Rattle.refutation.specs.Steps.{NamesRows, Step, hints_at}
 use Rattle.refutation.specs.Steps.Step.{Clause, Linear}

@@ -13,7 +13,7 @@ use Rattle.league.specs.declared.class.Side.TheVariants.{A, H}
 use Rattle.league.proofs.DoubleFour.{game}
 use Rattle.rows.specs.Rows.{Satisfies}
 use Rattle.rows.specs.Values.{assigned}
-use Rattle.encoding_base.specs.Variables.{h_var}
+use Rattle.encoding.specs.Variables.{h_var}
 use Rattle.patterns.specs.Pattern.{IsPattern}
 use Rattle.moves.specs.Moves.{is_between, moved, times, turned}
 use Rattle.moves.specs.Neighbours.{home_swap}

@@ -18,11 +18,11 @@ use Rattle.rows.specs.Rows.{Row}
 use Rattle.rows.specs.Tests.{all_satisfied}
 use Rattle.rows.specs.Values.{assigned}
 use Rattle.rows.specs.declared.lit.Term.{Term}
-use Rattle.encoding_base.specs.Encoding.{class_rows, encoding_size, rows_of}
-use Rattle.encoding_base.specs.Known.{AreKnown, IsKnown}
-use Rattle.encoding_base.specs.Season.{half_rows}
-use Rattle.encoding_base.specs.Shadow.{IsShadow, decoded}
-use Rattle.encoding_base.specs.Variables.{ab_var, h_var, hb_var, place_beside, var_count, x_var}
+use Rattle.encoding.specs.Encoding.{class_rows, encoding_size, rows_of}
+use Rattle.encoding.specs.Known.{AreKnown, IsKnown}
+use Rattle.encoding.specs.Season.{half_rows}
+use Rattle.encoding.specs.Shadow.{IsShadow, decoded}
+use Rattle.encoding.specs.Variables.{ab_var, h_var, hb_var, place_beside, var_count, x_var}
 use Rattle.decoding.specs.Shortfalls.{meets_hard, shortfall, units_needed}
 
 abbrev league_of : ℕ → Bool → List Constraint → Instance

@@ -26,7 +26,7 @@ use Rattle.rows.specs.Partials.{IsQuietRow, value_of}
 use Rattle.rows.specs.Rows.{Row}
 use Rattle.rows.specs.declared.lit.Term.{Term}
 use Rattle.rows.specs.declared.partial.Value.TheVariants.{Free}
-use Rattle.encoding_base.specs.Encoding.{encoding_size}
+use Rattle.encoding.specs.Encoding.{encoding_size}
 use Rattle.circle_method.specs.Circle.{double_games}
 use Rattle.robinx_tags.specs.Pieces.{pieces, pieces_from}
 use Rattle.robinx_tags.specs.Tags.{attributes_at}

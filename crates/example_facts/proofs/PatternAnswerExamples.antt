@@ -26,8 +26,8 @@ use Rattle.rows.specs.declared.lit.Term.{Term}
 use Rattle.rows.specs.declared.partial.Value.{Value}
 use Rattle.rows.specs.declared.partial.Value.TheVariants.{True, False, Free}
 use Rattle.rows.proofs.TestLemmas.{SatisfiesAll-from_true}
-use Rattle.encoding_base.specs.Encoding.{rows_of}
-use Rattle.encoding_base.specs.Variables.{h_var}
+use Rattle.encoding.specs.Encoding.{rows_of}
+use Rattle.encoding.specs.Variables.{h_var}
 use Rattle.patterns.specs.Pattern.{IsPattern}
 use Rattle.refutation.specs.Following.{all_free, clause_row, judged, row_numbered}
 use Rattle.refutation.specs.Steps.{Step}

@@ -19,8 +19,8 @@ use Rattle.rows.specs.Rows.{Row}
 use Rattle.rows.specs.Values.{assigned}
 use Rattle.rows.specs.declared.lit.Term.{Term}
 use Rattle.rows.specs.declared.partial.Value.TheVariants.{False, Free}
-use Rattle.encoding_base.specs.Encoding.{rows_of}
-use Rattle.encoding_base.specs.Variables.{ab_var, h_var, hb_var}
+use Rattle.encoding.specs.Encoding.{rows_of}
+use Rattle.encoding.specs.Variables.{ab_var, h_var, hb_var}
 use Rattle.refutation.specs.Following.{all_free, row_numbered}
 use Rattle.refutation.specs.Steps.{Step, hints_at}
 use Rattle.refutation.specs.Steps.Step.{Clause}

@@ -15,7 +15,7 @@ use Rattle.rows.specs.Rows.{Satisfies}
 use Rattle.rows.specs.Values.{assigned}
 use Rattle.rows.specs.declared.lit.Term.{Term}
 use Rattle.rows.specs.declared.partial.Value.TheVariants.{Free}
-use Rattle.encoding_base.specs.Variables.{h_var}
+use Rattle.encoding.specs.Variables.{h_var}
 use Rattle.patterns.specs.Pattern.{IsPattern}
 use Rattle.refutation.specs.Following.{all_free}
 use Rattle.clause_search.specs.News.{IsTidy}

@@ -15,7 +15,7 @@ use Rattle.rows.specs.Cardinality.{at_least}
 use Rattle.rows.specs.Literals.{no, yes}
 use Rattle.rows.specs.Values.{assigned}
 use Rattle.rows.proofs.TestLemmas.{SatisfiesAll-from_true}
-use Rattle.encoding_base.specs.Variables.{var_count}
+use Rattle.encoding.specs.Variables.{var_count}
 use Rattle.refutation.specs.Steps.{Step}
 use Rattle.refutation.specs.Steps.Step.{Clause}
 use Rattle.refutation.specs.Verdict.{verdict_of}

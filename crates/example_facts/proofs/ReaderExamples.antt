@@ -30,7 +30,7 @@ use Rattle.robinx_read.specs.declared.fault.ReadFault.TheVariants as faults
 use Rattle.rows.specs.Cardinality.{at_least}
 use Rattle.rows.specs.Literals.{no, yes}
 use Rattle.rows.specs.Rows.{Row}
-use Rattle.encoding_base.specs.Encoding.{rows_of}
+use Rattle.encoding.specs.Encoding.{rows_of}
 use Rattle.bound_rows.specs.BoundRows.{bound_rows}
 use Rattle.bound_rows.specs.Bounded.{IsCounted, IsSystem}
 use Rattle.resume_rows.specs.Systems.{PartlyPlayed, rows_for}

@@ -8,11 +8,11 @@ use Rattle.league.specs.declared.class.Class.{Class}
 use Rattle.league.specs.declared.class.Class.TheVariants.{Fa2}
 use Rattle.league.specs.declared.class.Constraint.{Constraint}
 use Rattle.rows.specs.Rows.{Row, size_of}
-use Rattle.encoding_base.specs.Encoding.{class_rows, constraint_rows, encoding_size}
-use Rattle.encoding_base.specs.Season.{break_rows}
-use Rattle.encoding_base.specs.Variables.{has_breaks}
-use Rattle.encoding_sizes.proofs.ClassSizeLemmas.{size_of-fa2}
-use Rattle.encoding_sizes.proofs.SeasonSizes.{season_terms, size_of-season, total_size}
+use Rattle.encoding.specs.Encoding.{class_rows, constraint_rows, encoding_size}
+use Rattle.encoding.specs.Season.{break_rows}
+use Rattle.encoding.specs.Variables.{has_breaks}
+use Rattle.encoding.proofs.ClassSizeLemmas.{size_of-fa2}
+use Rattle.encoding.proofs.SeasonSizes.{season_terms, size_of-season, total_size}
 
 abbrev hard : Class → Constraint
 hard class = record { hard = true; penalty = 1; class = class }

@@ -29,7 +29,7 @@ use Rattle.rows.specs.Rows.{Row}
 use Rattle.rows.specs.declared.lit.Term.{Term}
 use Rattle.rows.specs.declared.partial.Value.{Value}
 use Rattle.rows.specs.declared.partial.Value.TheVariants.{True, False, Free}
-use Rattle.encoding_base.specs.Encoding.{rows_of}
+use Rattle.encoding.specs.Encoding.{rows_of}
 use Rattle.refutation.specs.Following.{all_free}
 use Rattle.refutation.specs.Steps.{NamesRows, Step}
 use Rattle.refutation.specs.Steps.Step.{Clause, Linear}

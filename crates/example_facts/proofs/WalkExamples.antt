@@ -17,7 +17,7 @@ use Rattle.league.specs.declared.class.Class.TheVariants.{Ca1}
 use Rattle.league.specs.declared.class.Constraint.{Constraint}
 use Rattle.league.specs.declared.class.Side.TheVariants.{A}
 use Rattle.league.proofs.DoubleFour.{game}
-use Rattle.encoding_base.specs.Encoding.{encoding_size, rows_of}
+use Rattle.encoding.specs.Encoding.{encoding_size, rows_of}
 use Rattle.rows.specs.Rows.{Row}
 use Rattle.rule_core.specs.Ready.{entry_count}
 use Rattle.rule_core.specs.Rule.{IsRuleOf}

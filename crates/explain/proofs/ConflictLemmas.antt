@@ -9,7 +9,7 @@ use Rattle.std.proofs.lemmas.List.Elements.{All-cons, All-head, All-nil, All-tai
 use Rattle.league.specs.Instance.{Instance, IsInstance}
 use Rattle.league.specs.declared.game.Game.{Game}
 use Rattle.circle_method.specs.Circle.{double_games}
-use Rattle.encoding_base.specs.Variables.{var_count}
+use Rattle.encoding.specs.Variables.{var_count}
 use Rattle.explain.specs.Parts.{part_of, without}
 use Rattle.refutation.specs.Steps.{Step}
 use Rattle.robin_watch.proofs.LimitLemmas.{kept-unstopped}

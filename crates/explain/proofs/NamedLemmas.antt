@@ -8,8 +8,8 @@ use Rattle.std.proofs.lemmas.Option.{slice_get-get_or, slice_get_within}
 use Rattle.std.proofs.lemmas.List.Elements.{All-nil, All-push, Contains-append_left, Contains-append_right}
 use Rattle.league.specs.Instance.{Instance}
 use Rattle.league.specs.declared.class.Constraint.{Constraint}
-use Rattle.encoding_base.specs.Encoding.{rows_of}
-use Rattle.encoding_base.specs.RowRanges.{first_row}
+use Rattle.encoding.specs.Encoding.{rows_of}
+use Rattle.encoding.specs.RowRanges.{first_row}
 use Rattle.explain.specs.Parts.{is_hard, is_hard_number, constraint_numbered, listed, numbered}
 use Rattle.refutation.specs.Steps.{Step}
 use Rattle.explain.specs.Used.{AreNamed, IsMarked, IsUsed, UsesConstraint}

@@ -17,9 +17,9 @@ use Rattle.league.proofs.RoundRobinLemmas.{any_phases}
 use Rattle.rows.specs.Rows.{Row, size_of}
 use Rattle.circle_method.specs.Circle.{double_games}
 use Rattle.circle_method.proofs.RoundRobinLemmas.{IsRoundRobin-double_games}
-use Rattle.encoding_base.specs.Encoding.{class_rows, constraint_rows, encoding_size, rows_of, season_rows}
-use Rattle.encoding_base.specs.Season.{break_rows}
-use Rattle.encoding_base.specs.Variables.{bounds_breaks, has_breaks, hb_count, h_count, var_count, x_count}
+use Rattle.encoding.specs.Encoding.{class_rows, constraint_rows, encoding_size, rows_of, season_rows}
+use Rattle.encoding.specs.Season.{break_rows}
+use Rattle.encoding.specs.Variables.{bounds_breaks, has_breaks, hb_count, h_count, var_count, x_count}
 use Rattle.explain.specs.Parts.{constraint_numbered, hard_numbers, listed, numbered, part_of, without}
 use Rattle.explain.proofs.PartLemmas.{numbered-hard_numbers}
 

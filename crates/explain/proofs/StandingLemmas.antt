@@ -18,8 +18,8 @@ use Rattle.league.specs.Counts.{counts_of}
 use Rattle.league.specs.Instance.{Instance}
 use Rattle.league.specs.Sets.{IsAscending, is_in}
 use Rattle.rows.specs.Rows.{Row, size_of}
-use Rattle.encoding_base.specs.Encoding.{encoding_size, rows_of}
-use Rattle.encoding_base.specs.Variables.{var_count}
+use Rattle.encoding.specs.Encoding.{encoding_size, rows_of}
+use Rattle.encoding.specs.Variables.{var_count}
 use Rattle.explain.specs.Parts.{hard_numbers, is_hard_number, part_of, without}
 use Rattle.explain.proofs.PartLemmas.{hard_numbers-ascending, hard_numbers-hard}
 use Rattle.refutation.specs.Steps.{Step}

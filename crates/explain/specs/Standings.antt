@@ -6,8 +6,8 @@ use Rattle.std.specs.Option.{option_to_list}
 use Rattle.std.specs.Ordering.{nat_cmp}
 use Rattle.league.specs.Instance.{Instance}
 use Rattle.league.specs.Sets.{IsAscending}
-use Rattle.encoding_base.specs.Encoding.{encoding_size}
-use Rattle.encoding_base.specs.Variables.{var_count}
+use Rattle.encoding.specs.Encoding.{encoding_size}
+use Rattle.encoding.specs.Variables.{var_count}
 use Rattle.explain.specs.Parts.{is_hard_number, part_of}
 use Rattle.refutation.specs.Steps.{Step}
 use Rattle.solve.specs.Solutions.{RefutesLeague}

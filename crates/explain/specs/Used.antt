@@ -5,8 +5,8 @@ use Rattle.std.specs.List.{All, slice_index_or}
 use Rattle.std.specs.Option.{option_map_or}
 use Rattle.league.specs.Instance.{Instance}
 use Rattle.league.specs.Sets.{is_in}
-use Rattle.encoding_base.specs.Encoding.{rows_of}
-use Rattle.encoding_base.specs.RowRanges.{IsRowOf}
+use Rattle.encoding.specs.Encoding.{rows_of}
+use Rattle.encoding.specs.RowRanges.{IsRowOf}
 use Rattle.refutation.specs.Steps.{Step}
 use Rattle.refutation.specs.Steps.Step.{Clause, Linear}
 

@@ -6,7 +6,7 @@ ghost use Rattle.league.specs.Accepted.{IsAccepted};
 ghost use Rattle.league.specs.Counts.{counts_of};
 ghost use Rattle.league.specs.Sets.{IsAscending};
 ghost use Rattle.circle_method.specs.Circle.{double_games};
-ghost use Rattle.encoding_base.specs.Encoding.{encoding_size};
+ghost use Rattle.encoding.specs.Encoding.{encoding_size};
 ghost use Rattle.explain.specs.Parts.{is_hard_number, part_of};
 ghost use Rattle.venue_counts.specs.VenueCounts.{are_crowded, are_short};
 ghost use Rattle.break_counts.specs.BreakCounts.{are_few};

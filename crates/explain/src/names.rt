@@ -3,7 +3,7 @@ ghost use Rattle.std.specs.Prelude.{◌≡◌, ◌≤◌, ◌<◌, ℕ, true, fa
 ghost use Rattle.std.specs.List.{All, slice_index_or};
 ghost use Rattle.std.specs.Ordering.{nat_cmp};
 ghost use Rattle.league.specs.Sets.{IsAscending};
-ghost use Rattle.encoding_base.specs.Encoding.{encoding_size};
+ghost use Rattle.encoding.specs.Encoding.{encoding_size};
 ghost use Rattle.explain.specs.Parts.{is_hard_number, part_of};
 ghost use Rattle.encoding.specs.Limit.{most_terms};
 ghost use Rattle.explain.specs.Used.{AreNamed};

@@ -4,7 +4,7 @@ use Rattle.std.specs.List.{All}
 use Rattle.std.proofs.lemmas.List.Elements.{All-nil, All-weaker}
 use Rattle.league.specs.Instance.{Instance, IsInstance}
 use Rattle.rows.specs.Rows.{Row}
-use Rattle.encoding_base.specs.Known.{AreKnown, IsKnown}
+use Rattle.encoding.specs.Known.{AreKnown, IsKnown}
 use Rattle.refutation.specs.Steps.{NamesRows, Step}
 use Rattle.refutation.specs.Verdict.{verdict_of}
 use Rattle.refutation.specs.Writable.{HasShortLines}

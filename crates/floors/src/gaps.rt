@@ -6,7 +6,7 @@ use crate::draft::Draft;
 use crate::summands::Summands;
 use crate::windows::Windows;
 use break_counts::{Frame, Writer};
-use encoding_base::x_at;
+use encoding::x_at;
 use rows::Lit;
 use std::alloc::{AllocError, Global};
 

@@ -4,7 +4,7 @@ ghost use Rattle.std.specs.List.{All};
 ghost use Rattle.league.specs.Instance.{class_fits};
 
 use bound_rows::parts_of;
-use encoding_rows::{Season, write_class};
+use encoding::{Season, write_class};
 use league::{Class, Constraint};
 use rows::{RowStore, Term};
 use std::alloc::{AllocError, Global};

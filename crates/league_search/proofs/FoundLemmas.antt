@@ -8,9 +8,9 @@ use Rattle.std.proofs.lemmas.List.Folds.{list_any-append}
 use Rattle.league.specs.Instance.{Instance}
 use Rattle.rows.specs.Rows.{Row, Satisfies}
 use Rattle.rows.specs.Values.{assigned}
-use Rattle.encoding_base.specs.Encoding.{rows_of}
-use Rattle.encoding_base.specs.Known.{AreKnown}
-use Rattle.encoding_base.specs.Variables.{has_breaks, var_count}
+use Rattle.encoding.specs.Encoding.{rows_of}
+use Rattle.encoding.specs.Known.{AreKnown}
+use Rattle.encoding.specs.Variables.{has_breaks, var_count}
 use Rattle.propagate.specs.Trails.{KnowsVariables}
 use Rattle.refutation.specs.Logs.{most_bytes}
 use Rattle.refutation.specs.Steps.{NamesRows, Step, is_linear}

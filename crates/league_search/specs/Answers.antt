@@ -5,8 +5,8 @@ use Rattle.league.specs.Instance.{Instance}
 use Rattle.robin_watch.specs.Limits.{IsKeptTo}
 use Rattle.rows.specs.Rows.{SatisfiesAll}
 use Rattle.rows.specs.Values.{assigned}
-use Rattle.encoding_base.specs.Encoding.{rows_of}
-use Rattle.encoding_base.specs.Variables.{has_breaks, var_count}
+use Rattle.encoding.specs.Encoding.{rows_of}
+use Rattle.encoding.specs.Variables.{has_breaks, var_count}
 use Rattle.refutation.specs.Steps.{NamesRows, Step}
 use Rattle.refutation.specs.Verdict.{verdict_of}
 use Rattle.refutation.specs.Writable.{HasShortLines}

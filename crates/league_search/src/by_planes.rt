@@ -1,8 +1,8 @@
 //! The search over a league's rows by cutting planes.
 ghost use Rattle.std.specs.Prelude.{◌<◌, length, IfOk, IfSome};
 ghost use Rattle.league.specs.Instance.{IsInstance};
-ghost use Rattle.encoding_base.specs.Encoding.{rows_of};
-ghost use Rattle.encoding_base.specs.Variables.{var_count};
+ghost use Rattle.encoding.specs.Encoding.{rows_of};
+ghost use Rattle.encoding.specs.Variables.{var_count};
 ghost use Rattle.planes.specs.Refuted.{IsRefutation};
 ghost use Rattle.league_search.specs.Answers.{IsWritable};
 

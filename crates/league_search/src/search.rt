@@ -1,8 +1,8 @@
 //! The search over a league's rows.
 ghost use Rattle.std.specs.Prelude.{◌≡◌, ◌≤◌, ℕ, true, Option, IfOk, IfSome};
 ghost use Rattle.std.specs.List.{All};
-ghost use Rattle.encoding_base.specs.Encoding.{rows_of};
-ghost use Rattle.encoding_base.specs.Variables.{has_breaks, var_count};
+ghost use Rattle.encoding.specs.Encoding.{rows_of};
+ghost use Rattle.encoding.specs.Variables.{has_breaks, var_count};
 ghost use Rattle.clause_search.specs.Answers.{IsAnswer, IsSomeAnswer};
 ghost use Rattle.league_search.specs.Answers.{IsLeagueAnswer, IsLeagueAnswerBy, IsWritable};
 ghost use Rattle.league_search.specs.Sums.{IsLonger};

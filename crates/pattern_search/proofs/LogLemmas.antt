@@ -13,8 +13,8 @@ use Rattle.std.proofs.lemmas.Option.{slice_get_within}
 use Rattle.league.specs.Instance.{Instance, IsInstance}
 use Rattle.rows.specs.Partials.{IsQuiet}
 use Rattle.rows.specs.Rows.{Row}
-use Rattle.encoding_base.specs.Encoding.{rows_of}
-use Rattle.encoding_base.specs.Variables.{h_count, has_breaks, hb_count, var_count, x_count}
+use Rattle.encoding.specs.Encoding.{rows_of}
+use Rattle.encoding.specs.Variables.{h_count, has_breaks, hb_count, var_count, x_count}
 use Rattle.refutation.specs.Following.{clause_row, fault_of, judged, row_numbered, row_unless}
 use Rattle.refutation.specs.Steps.{Step, clause_of, is_linear}
 use Rattle.refutation.specs.Steps.Step.{Clause}

@@ -10,8 +10,8 @@ use Rattle.league.specs.declared.class.Side.{Side}
 use Rattle.league.specs.declared.class.Side.TheVariants.{H, A, Both}
 use Rattle.rows.specs.Cardinality.{at_least}
 use Rattle.rows.specs.Literals.{yes, no}
-use Rattle.encoding_base.specs.Encoding.{rows_of}
-use Rattle.encoding_base.specs.Season.{break_rows, slot_rows, team_rows}
+use Rattle.encoding.specs.Encoding.{rows_of}
+use Rattle.encoding.specs.Season.{break_rows, slot_rows, team_rows}
 use Rattle.refutation.specs.Following.{row_numbered}
 use Rattle.refutation.specs.Steps.Step.{Clause}
 use Rattle.pattern_search.specs.PatternLogs.{NamesPatternRows}

@@ -18,10 +18,10 @@ use Rattle.patterns.specs.Pattern.{IsPattern}
 use Rattle.rows.specs.Rows.{Row, Satisfies, SatisfiesAll}
 use Rattle.rows.specs.Values.{assigned}
 use Rattle.rows.proofs.TestLemmas.{all_satisfied-true}
-use Rattle.encoding_base.specs.Encoding.{constraint_rows, rows_of, season_rows}
-use Rattle.encoding_base.specs.Lists.{after_first}
-use Rattle.encoding_base.specs.Season.{both_needed, break_rows, break_rows_at, neither_needed}
-use Rattle.encoding_base.specs.Variables.{ab_var, h_count, h_var, has_breaks, hb_count, hb_var, x_count}
+use Rattle.encoding.specs.Encoding.{constraint_rows, rows_of, season_rows}
+use Rattle.encoding.specs.Lists.{after_first}
+use Rattle.encoding.specs.Season.{both_needed, break_rows, break_rows_at, neither_needed}
+use Rattle.encoding.specs.Variables.{ab_var, h_count, h_var, has_breaks, hb_count, hb_var, x_count}
 use Rattle.decoding.proofs.BreakRows.{after_first_passes, break_rows-law, breaks_agree}
 use Rattle.decoding.proofs.VenueLaws.{agree-true, each_cell}
 use Rattle.pattern_search.specs.Letters.{letters_of, lowered, patterns_by, side_of}

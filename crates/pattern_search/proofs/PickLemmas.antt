@@ -13,9 +13,9 @@ use Rattle.rows.specs.Rows.{IsRow, Row}
 use Rattle.rows.specs.declared.lit.Term.{Term}
 use Rattle.propagate.specs.Trails.{KnowsVariables}
 use Rattle.refutation.specs.Following.{no_demand, row_numbered}
-use Rattle.encoding_base.specs.Encoding.{rows_of}
-use Rattle.encoding_base.specs.Known.{AreKnown, IsKnown}
-use Rattle.encoding_base.specs.Variables.{var_count}
+use Rattle.encoding.specs.Encoding.{rows_of}
+use Rattle.encoding.specs.Known.{AreKnown, IsKnown}
+use Rattle.encoding.specs.Variables.{var_count}
 use Rattle.pattern_search.specs.PatternRows.{is_pattern_row}
 use Rattle.pattern_search.specs.Raised.{IsFromOne, IsPicked, raised_row, raised_term}
 use Rattle.pattern_search.proofs.NumberLemmas.{slice_get-push}

@@ -5,7 +5,7 @@ use Rattle.league.specs.Counts.{slot_count}
 use Rattle.league.specs.declared.class.Side.{Side}
 use Rattle.league.specs.declared.class.Side.TheVariants.{H, A}
 use Rattle.rows.specs.Values.{assigned}
-use Rattle.encoding_base.specs.Variables.{h_var}
+use Rattle.encoding.specs.Variables.{h_var}
 
 -- values of variables that are so many lower
 abbrev pub lowered : ℕ → List Bool → ℕ → Bool

@@ -6,8 +6,8 @@ use Rattle.league.specs.Instance.{Instance}
 use Rattle.rows.specs.Rows.{Row}
 use Rattle.rows.specs.Partials.{IsEmpowering, IsQuiet}
 use Rattle.rows.specs.declared.partial.Value.{Value}
-use Rattle.encoding_base.specs.Encoding.{rows_of}
-use Rattle.encoding_base.specs.Variables.{var_count, x_count}
+use Rattle.encoding.specs.Encoding.{rows_of}
+use Rattle.encoding.specs.Variables.{var_count, x_count}
 use Rattle.refutation.specs.Following.{judged, row_numbered}
 use Rattle.refutation.specs.Steps.{Step, clause_of, hints_of}
 use Rattle.refutation.specs.Steps.Step.{Clause}

@@ -3,8 +3,8 @@ use Rattle.std.specs.Prelude.{ℕ, ◌+◌, ◌*◌, Bool, nat_lt, if◌then◌e
 use Rattle.std.specs.List.{filter, list_all}
 use Rattle.league.specs.Instance.{Instance}
 use Rattle.rows.specs.Rows.{Row}
-use Rattle.encoding_base.specs.Encoding.{rows_of}
-use Rattle.encoding_base.specs.Variables.{h_count, has_breaks, hb_count, x_count}
+use Rattle.encoding.specs.Encoding.{rows_of}
+use Rattle.encoding.specs.Variables.{h_count, has_breaks, hb_count, x_count}
 
 -- whether a row speaks of no game, where games have so many variables: the first ones
 abbrev pub is_pattern_row : ℕ → Row → Bool

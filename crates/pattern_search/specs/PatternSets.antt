@@ -7,7 +7,7 @@ use Rattle.league.specs.declared.class.Side.{Side}
 use Rattle.league.specs.declared.class.Side.TheVariants.{H, A, Both}
 use Rattle.patterns.specs.Pattern.{IsPattern}
 use Rattle.rows.specs.Rows.{SatisfiesAll}
-use Rattle.encoding_base.specs.Variables.{ab_var, h_var, has_breaks, hb_var}
+use Rattle.encoding.specs.Variables.{ab_var, h_var, has_breaks, hb_var}
 use Rattle.pattern_search.specs.PatternRows.{pattern_rows}
 
 -- the letter of team i at slot s

@@ -1,8 +1,8 @@
 //! The search for patterns.
 ghost use Rattle.std.specs.Prelude.{◌≡◌, ℕ, ◌+◌, ◌-◌, length, Option, IfOk};
-ghost use Rattle.encoding_base.specs.Encoding.{rows_of};
-ghost use Rattle.encoding_base.specs.Variables.{var_count};
-ghost use Rattle.encoding_base.specs.Variables as variables;
+ghost use Rattle.encoding.specs.Encoding.{rows_of};
+ghost use Rattle.encoding.specs.Variables.{var_count};
+ghost use Rattle.encoding.specs.Variables as variables;
 ghost use Rattle.clause_search.specs.Answers.{IsAnswer, IsSomeAnswer};
 ghost use Rattle.pattern_search.specs.Answers.{IsPatternAnswer, IsPatternAnswerBy};
 ghost use Rattle.pattern_search.specs.Raised.{IsPicked};
@@ -12,8 +12,7 @@ use crate::letters::patterns_by;
 use crate::picked::{Picked, pick};
 use crate::raised::raised;
 use clause_search::{Found, search_watched};
-use encoding::Encoding;
-use encoding_base::x_count;
+use encoding::{Encoding, x_count};
 use robin_watch::{Unwatched, Watch};
 use std::alloc::{AllocError, Global};
 

@@ -2,8 +2,8 @@
 ghost use Rattle.std.specs.Prelude.{◌≡◌, ◌<◌, ◌+◌, length, IfOk, IsTrue};
 ghost use Rattle.league.specs.Counts as counts;
 ghost use Rattle.league.specs.Instance.{is_one_side};
-ghost use Rattle.encoding_base.specs.Variables as variables;
-ghost use Rattle.encoding_base.specs.Variables.{var_count};
+ghost use Rattle.encoding.specs.Variables as variables;
+ghost use Rattle.encoding.specs.Variables.{var_count};
 ghost use Rattle.pattern_search.specs.Letters as letters;
 ghost use Rattle.pattern_search.specs.Letters.{letters_of, patterns_by};
 

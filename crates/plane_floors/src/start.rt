@@ -5,7 +5,7 @@ ghost use Rattle.std.specs.List.{All};
 
 use bound_rows::needs_breaks;
 use break_counts::{Frame, Stretch, Writer, add_clique};
-use encoding_base::{ab_at, h_at, hb_at, x_at};
+use encoding::{ab_at, h_at, hb_at, x_at};
 use league::League;
 use planes::{Derived, Start};
 use refutation::Part;

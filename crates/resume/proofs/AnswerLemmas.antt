@@ -15,9 +15,9 @@ use Rattle.league.proofs.CountLemmas.{counts_of-permutation}
 use Rattle.rows.specs.Rows.{Row}
 use Rattle.rows.specs.Values.{assigned}
 use Rattle.rows.proofs.TestLemmas.{SatisfiesAll-from_true, all_satisfied-true}
-use Rattle.encoding_base.specs.Encoding.{rows_of}
-use Rattle.encoding_base.specs.Known.{AreKnown, IsKnown}
-use Rattle.encoding_base.specs.Variables.{var_count}
+use Rattle.encoding.specs.Encoding.{rows_of}
+use Rattle.encoding.specs.Known.{AreKnown, IsKnown}
+use Rattle.encoding.specs.Variables.{var_count}
 use Rattle.decoding.proofs.DecodeLemmas.{in_order}
 use Rattle.decoding.proofs.SeasonRows.{both_satisfied}
 use Rattle.refutation.specs.Steps.{Step}

@@ -5,9 +5,9 @@ use Rattle.league.specs.Counts.{slots_of}
 use Rattle.league.specs.Meetings.{meetings_of}
 use Rattle.league.specs.declared.game.Game.{Game}
 use Rattle.league.proofs.ListLemmas.{flat_map-same}
-use Rattle.encoding_base.specs.Shadow.{decoded, game_of}
-use Rattle.encoding_base.specs.Variables.{x_var}
-use Rattle.encoding_base.proofs.KeyRowLemmas.{filter-flat_map}
+use Rattle.encoding.specs.Shadow.{decoded, game_of}
+use Rattle.encoding.specs.Variables.{x_var}
+use Rattle.encoding.proofs.KeyRowLemmas.{filter-flat_map}
 use Rattle.resume.specs.Found.{game_if_true}
 
 -- what passes a test after it is changed

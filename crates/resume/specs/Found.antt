@@ -6,9 +6,9 @@ use Rattle.league.specs.Instance.{Instance}
 use Rattle.league.specs.declared.game.Game.{Game}
 use Rattle.rows.specs.Rows.{SatisfiesAll}
 use Rattle.rows.specs.Values.{assigned}
-use Rattle.encoding_base.specs.Encoding.{rows_of}
-use Rattle.encoding_base.specs.Shadow.{decoded, game_of}
-use Rattle.encoding_base.specs.Variables.{var_count, x_var}
+use Rattle.encoding.specs.Encoding.{rows_of}
+use Rattle.encoding.specs.Shadow.{decoded, game_of}
+use Rattle.encoding.specs.Variables.{var_count, x_var}
 use Rattle.clause_search.specs.declared.found.Found.{Found}
 use Rattle.clause_search.specs.declared.found.Found.TheVariants as found
 use Rattle.resume.specs.declared.resumed.Resumed.{Resumed}

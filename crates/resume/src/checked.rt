@@ -4,7 +4,7 @@ ghost use Rattle.std.specs.List.{All};
 ghost use Rattle.league.specs.Counts as counts;
 ghost use Rattle.league.specs.Counts.{counts_of};
 ghost use Rattle.league.specs.Instance.{IsGame, IsInstance};
-ghost use Rattle.encoding_base.specs.Variables.{var_count};
+ghost use Rattle.encoding.specs.Variables.{var_count};
 ghost use Rattle.refutation.specs.Verdict.{verdict_of};
 ghost use Rattle.refutation_check.specs.Judged.{no_step_of};
 ghost use Rattle.resume_rows.specs.Kept as kept;

@@ -6,12 +6,12 @@ ghost use Rattle.league.specs.Accepted.{IsAccepted};
 ghost use Rattle.league.specs.Counts.{counts_of};
 ghost use Rattle.league.specs.Instance.{IsGame};
 ghost use Rattle.league.specs.Order.{IsInOrder};
-ghost use Rattle.encoding_base.specs.Variables as variables;
+ghost use Rattle.encoding.specs.Variables as variables;
 ghost use Rattle.resume.specs.Answers.{IsPlan, IsResumed};
 
 use crate::resumed::Resumed;
 use deviation::assess;
-use encoding_base::x_at;
+use encoding::x_at;
 use league::{Game, League, Schedule};
 use resume_rows::copied;
 use rows::Lit;

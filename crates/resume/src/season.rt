@@ -4,12 +4,12 @@ ghost use Rattle.std.specs.List.{All, flat_map};
 ghost use Rattle.league.specs.Counts as counts;
 ghost use Rattle.league.specs.Instance.{IsTeamCount};
 ghost use Rattle.rows.specs.Values.{assigned};
-ghost use Rattle.encoding_base.specs.Ascending.{IsMeeting};
-ghost use Rattle.encoding_base.specs.Shadow.{decoded};
-ghost use Rattle.encoding_base.specs.Variables as variables;
+ghost use Rattle.encoding.specs.Ascending.{IsMeeting};
+ghost use Rattle.encoding.specs.Shadow.{decoded};
+ghost use Rattle.encoding.specs.Variables as variables;
 ghost use Rattle.resume.specs.Found.{game_if_true};
 
-use encoding_base::x_at;
+use encoding::x_at;
 use league::{Game, Schedule, SlotId, TeamId, slot_count};
 use resume_rows::season_meetings;
 use rows::Assignment;

@@ -4,9 +4,9 @@ use Rattle.std.proofs.lemmas.List.Elements.{All-append}
 use Rattle.league.specs.Counts.{counts_of}
 use Rattle.rows.specs.Rows.{Satisfies}
 use Rattle.rows.proofs.TestLemmas.{SatisfiesAll-from_true, all_satisfied-true}
-use Rattle.encoding_base.specs.Encoding.{rows_of}
-use Rattle.encoding_base.specs.Shadow.{decoded}
-use Rattle.encoding_base.specs.Variables.{has_breaks, var_count}
+use Rattle.encoding.specs.Encoding.{rows_of}
+use Rattle.encoding.specs.Shadow.{decoded}
+use Rattle.encoding.specs.Variables.{has_breaks, var_count}
 use Rattle.decoding.proofs.Faithful.{accepted-from_rows, rows-from_accepted}
 use Rattle.decoding.proofs.SeasonRows.{both_satisfied}
 use Rattle.decoding.proofs.SomeShadow.{shadow_values, some_shadow}

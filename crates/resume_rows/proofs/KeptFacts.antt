@@ -9,8 +9,8 @@ use Rattle.league.proofs.DoubleFour.{eleven, game, last_game}
 use Rattle.rows.specs.Cardinality.{at_least}
 use Rattle.rows.specs.Literals.{no, yes}
 use Rattle.rows.specs.Rows.{Row, size_of}
-use Rattle.encoding_base.specs.Encoding.{encoding_size, rows_of}
-use Rattle.encoding_base.specs.Variables.{var_count, x_var}
+use Rattle.encoding.specs.Encoding.{encoding_size, rows_of}
+use Rattle.encoding.specs.Variables.{var_count, x_var}
 use Rattle.refutation.specs.Steps.Step.{Clause}
 use Rattle.refutation.specs.Verdict.{verdict_of}
 use Rattle.refutation.specs.declared.verdict.Cause.TheVariants.{NoConflict, UnknownRow}

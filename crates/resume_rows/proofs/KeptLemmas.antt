@@ -14,9 +14,9 @@ use Rattle.rows.specs.Rows.{Row, SatisfiesAll}
 use Rattle.rows.specs.Tests.{satisfied}
 use Rattle.rows.proofs.ListLemmas.{list_all-at, list_all-filter, list_all-flat_map, list_all-range, list_all-weaker}
 use Rattle.rows.proofs.TestLemmas.{SatisfiesAll-from_true, all_satisfied-true, satisfied-at_least}
-use Rattle.encoding_base.specs.Shadow.{decoded}
-use Rattle.encoding_base.specs.Variables.{x_var}
-use Rattle.encoding_sizes.proofs.SizeLemmas.{sum_by-constant}
+use Rattle.encoding.specs.Shadow.{decoded}
+use Rattle.encoding.specs.Variables.{x_var}
+use Rattle.encoding.proofs.SizeLemmas.{sum_by-constant}
 use Rattle.decoding.proofs.DecodedCounts.{counts_of-decoded, counts_of-decoded_game}
 use Rattle.decoding.proofs.MarkLemmas.{sum_by-agree_all}
 use Rattle.decoding.proofs.MeetingLists.{meeting_parts, meetings_of-fit}

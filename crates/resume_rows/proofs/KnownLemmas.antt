@@ -9,11 +9,11 @@ use Rattle.league.specs.Meetings.{meetings_of}
 use Rattle.league.proofs.OneTermLemmas.{All-flat_map}
 use Rattle.rows.specs.Cardinality.{unit}
 use Rattle.rows.specs.declared.lit.Term.{Term}
-use Rattle.encoding_base.specs.Encoding.{rows_of}
-use Rattle.encoding_base.specs.Known.{AreKnown, IsKnown}
-use Rattle.encoding_base.specs.Variables.{var_count, x_count, x_var}
-use Rattle.encoding_base.proofs.AscendLemmas.{AscendsBy-below, AscendsBy-range}
-use Rattle.encoding_base.proofs.Places.{x_place-below, x_var-place}
+use Rattle.encoding.specs.Encoding.{rows_of}
+use Rattle.encoding.specs.Known.{AreKnown, IsKnown}
+use Rattle.encoding.specs.Variables.{var_count, x_count, x_var}
+use Rattle.encoding.proofs.AscendLemmas.{AscendsBy-below, AscendsBy-range}
+use Rattle.encoding.proofs.Places.{x_place-below, x_var-place}
 use Rattle.encoding.proofs.KnownLemmas.{rows_of-known}
 use Rattle.decoding.proofs.MeetingLists.{meeting_parts, meetings_of-fit}
 use Rattle.resume_rows.specs.Kept.{kept_literal, kept_row, kept_rows, kept_rows_in, resume_rows}

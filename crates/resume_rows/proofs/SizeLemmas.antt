@@ -7,9 +7,9 @@ use Rattle.league.specs.Counts.{Counts, counts_of}
 use Rattle.league.specs.Meetings.{meetings_of}
 use Rattle.league.proofs.SumLemmas.{sum_by-flat_map, sum_by-map, sum_by-same}
 use Rattle.rows.specs.Rows.{Row, size_of}
-use Rattle.encoding_base.specs.Encoding.{rows_of}
-use Rattle.encoding_sizes.proofs.SizeLemmas.{sum_by-constant}
-use Rattle.encoding_sizes.proofs.SeasonSizes.{length-meetings_of}
+use Rattle.encoding.specs.Encoding.{rows_of}
+use Rattle.encoding.proofs.SizeLemmas.{sum_by-constant}
+use Rattle.encoding.proofs.SeasonSizes.{length-meetings_of}
 use Rattle.resume_rows.specs.Kept.{kept_row, kept_rows, kept_rows_in}
 use Rattle.resume_rows.specs.Resumable.{HaveSize}
 

@@ -8,8 +8,8 @@ use Rattle.league.specs.Meetings.{meetings_of}
 use Rattle.rows.specs.Cardinality.{at_least}
 use Rattle.rows.specs.Literals.{Literal}
 use Rattle.rows.specs.Rows.{Row}
-use Rattle.encoding_base.specs.Encoding.{encoding_size, rows_of}
-use Rattle.encoding_base.specs.Variables.{x_var}
+use Rattle.encoding.specs.Encoding.{encoding_size, rows_of}
+use Rattle.encoding.specs.Variables.{x_var}
 
 -- whether the game takes place at all
 abbrev pub is_played : Counts → ℕ → ℕ → ℕ → Bool

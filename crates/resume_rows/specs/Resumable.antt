@@ -7,8 +7,8 @@ use Rattle.league.specs.Counts.{Counts, counts_of, slot_count}
 use Rattle.league.specs.Instance.{Instance, IsGame, IsInstance}
 use Rattle.league.specs.declared.game.Game.{Game}
 use Rattle.rows.specs.Rows.{Row, SatisfiesAll, size_of}
-use Rattle.encoding_base.specs.Shadow.{IsShadow, decoded}
-use Rattle.encoding_base.specs.Variables.{has_breaks, var_count}
+use Rattle.encoding.specs.Shadow.{IsShadow, decoded}
+use Rattle.encoding.specs.Variables.{has_breaks, var_count}
 use Rattle.refutation.specs.Steps.{Step}
 use Rattle.refutation.specs.Verdict.{verdict_of}
 use Rattle.refutation.specs.declared.verdict.Verdict.TheVariants.{Accepted}

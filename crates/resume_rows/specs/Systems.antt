@@ -4,7 +4,7 @@ use Rattle.league.specs.Counts.{counts_of, slot_count}
 use Rattle.league.specs.Instance.{Instance, IsInstance}
 use Rattle.league.specs.declared.game.Game.{Game}
 use Rattle.rows.specs.Rows.{Row}
-use Rattle.encoding_base.specs.Variables.{var_count}
+use Rattle.encoding.specs.Variables.{var_count}
 use Rattle.resume_rows.specs.Kept.{resume_rows}
 
 -- a league, a list of games, and the number of slots that are played

@@ -4,11 +4,11 @@ ghost use Rattle.std.specs.List.{All};
 ghost use Rattle.league.specs.Counts as counts;
 ghost use Rattle.league.specs.Meetings.{meetings_of};
 ghost use Rattle.rule_core.specs.Table.{table_counts};
-ghost use Rattle.encoding_base.specs.Ascending.{IsMeeting};
+ghost use Rattle.encoding.specs.Ascending.{IsMeeting};
 ghost use Rattle.resume_rows.specs.Kept as kept;
 ghost use Rattle.resume_rows.specs.Kept.{kept_literal, kept_row};
 
-use encoding_base::x_at;
+use encoding::x_at;
 use league::{SlotId, TeamId};
 use rows::{Lit, RowStore};
 use rule_core::Cells;

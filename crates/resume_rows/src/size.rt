@@ -3,7 +3,7 @@ ghost use Rattle.std.specs.Prelude.{◌≡◌, ◌≤◌};
 ghost use Rattle.league.specs.Counts as counts;
 ghost use Rattle.resume_rows.specs.Kept as kept;
 
-use encoding_sizes::encoding_size;
+use encoding::encoding_size;
 use league::League;
 
 /// How many terms the rows of a league have whose first k slots are played; they don't depend on the played games. It

@@ -22,7 +22,7 @@ use Rattle.encoding.specs.Encoding.{encoding_size, rows_of}
 use Rattle.encoding.specs.Limit.{most_terms}
 use Rattle.command_check.specs.Check.{encodes, most_log_bytes}
 use Rattle.command_solve.specs.Solve.{IsWellFormedInstance}
-use Rattle.encoding_base.specs.Shadow.{decoded}
+use Rattle.encoding.specs.Shadow.{decoded}
 use Rattle.opb_forms.specs.Texts.{opb_text}
 use Rattle.command_rows.specs.Rowed.{league_rows, rows_answer, system_of}
 use Rattle.opb_forms.specs.Values.{values_of}

@@ -5,7 +5,7 @@ use Rattle.league.specs.Instance.{Instance}
 use Rattle.league.specs.declared.game.Game.{Game}
 use Rattle.command_line.specs.Words.{Command}
 use Rattle.answers.specs.declared.status.Status.TheVariants.{Yes, No}
-use Rattle.encoding_base.specs.Variables.{var_count}
+use Rattle.encoding.specs.Variables.{var_count}
 use Rattle.refutation.specs.Steps.{Step}
 use Rattle.refutation_check.specs.Room.{KeepsRoom}
 use Rattle.resume_rows.specs.Kept.{resume_rows}

@@ -5,8 +5,8 @@ use Rattle.std.specs.List.{All, AllZip}
 use Rattle.robin_io.specs.Outside.{Output}
 use Rattle.league.specs.Instance.{Instance}
 use Rattle.explain.specs.Parts.{part_of}
-use Rattle.encoding_base.specs.Encoding.{rows_of}
-use Rattle.encoding_base.specs.Variables.{var_count}
+use Rattle.encoding.specs.Encoding.{rows_of}
+use Rattle.encoding.specs.Variables.{var_count}
 use Rattle.refutation.specs.Logs.{log_of}
 use Rattle.refutation.specs.Steps.{Step}
 use Rattle.refutation.specs.Texts.{log_text}

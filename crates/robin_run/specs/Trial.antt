@@ -3,7 +3,7 @@ use Rattle.std.specs.Prelude.{◌≡◌, ◌≢◌, ℕ, ◌≤◌, [], Some}
 use Rattle.robin_watch.specs.declared.budgets.Budgets.{Budgets}
 use Rattle.command_line.specs.Words.{Command}
 use Rattle.answers.specs.declared.status.Status.TheVariants.{Refuted, Spent}
-use Rattle.encoding_base.specs.Encoding.{encoding_size}
+use Rattle.encoding.specs.Encoding.{encoding_size}
 use Rattle.instance_gen.specs.Draws.{seeded}
 use Rattle.instance_gen.specs.Made.{made_league}
 use Rattle.command_solve.specs.Trial.{IsTrialBy}

@@ -12,8 +12,8 @@ use Rattle.league.specs.Instance.{Instance, IsInstance}
 use Rattle.league.specs.declared.game.Game.{Game}
 use Rattle.league.proofs.CountLemmas.{counts_of-permutation}
 use Rattle.circle_method.specs.Circle.{double_games}
-use Rattle.encoding_base.specs.Encoding.{rows_of}
-use Rattle.encoding_base.specs.Variables.{var_count, x_count}
+use Rattle.encoding.specs.Encoding.{rows_of}
+use Rattle.encoding.specs.Variables.{var_count, x_count}
 use Rattle.rows.specs.Rows.{Row}
 use Rattle.refutation.specs.Steps.{Step, is_linear}
 use Rattle.refutation.specs.Steps.Step.{Clause}

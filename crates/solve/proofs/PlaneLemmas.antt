@@ -3,8 +3,8 @@ use Rattle.std.proofs.Common.{◌≡◌, ℕ, List, Option, None, Some, inl, inr
 use Rattle.std.specs.Prelude.{IfSome}
 use Rattle.robin_watch.specs.declared.budgets.Budgets.{Budgets}
 use Rattle.league.specs.Instance.{Instance, IsInstance}
-use Rattle.encoding_base.specs.Encoding.{rows_of}
-use Rattle.encoding_base.specs.Variables.{var_count}
+use Rattle.encoding.specs.Encoding.{rows_of}
+use Rattle.encoding.specs.Variables.{var_count}
 use Rattle.refutation.specs.Steps.{Step}
 use Rattle.decoding.proofs.SeasonLemmas.{accepted_logs_exclude}
 use Rattle.planes.specs.Refuted.{IsRefutation}

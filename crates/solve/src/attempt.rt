@@ -3,8 +3,8 @@ ghost use Rattle.std.specs.Prelude.{◌≡◌, ◌≤◌, length, IfOk};
 ghost use Rattle.std.specs.List.{All};
 ghost use Rattle.rows.specs.Rows.{SatisfiesAll};
 ghost use Rattle.rows.specs.Values.{assigned};
-ghost use Rattle.encoding_base.specs.Encoding.{rows_of};
-ghost use Rattle.encoding_base.specs.Variables.{var_count};
+ghost use Rattle.encoding.specs.Encoding.{rows_of};
+ghost use Rattle.encoding.specs.Variables.{var_count};
 ghost use Rattle.league_search.specs.Answers.{IsLeagueAnswerBy};
 ghost use Rattle.solve.specs.Tried.{IsSeasonBy, IsTriedBy};
 

@@ -1,7 +1,7 @@
 //! A search by cutting planes, where the searches by clauses are spent.
 ghost use Rattle.std.specs.Prelude.{◌≤◌, ◌↔◌, IfOk, IfSome, IsTrue};
 ghost use Rattle.encoding.specs.Limit.{most_terms};
-ghost use Rattle.encoding_base.specs.Encoding.{encoding_size};
+ghost use Rattle.encoding.specs.Encoding.{encoding_size};
 ghost use Rattle.solve.specs.Solutions.{IsFoundOrRefuted, IsOpen, RefutesLeague};
 
 use crate::solved::Solved;

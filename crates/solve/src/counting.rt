@@ -1,7 +1,7 @@
 //! Refutations by counting, tried first: no search over clauses finds them in any time.
 ghost use Rattle.std.specs.Prelude.{◌≡◌, ◌≤◌, false, None, Ok, IfOk, IfSome};
 ghost use Rattle.encoding.specs.Limit.{most_terms};
-ghost use Rattle.encoding_base.specs.Encoding.{encoding_size};
+ghost use Rattle.encoding.specs.Encoding.{encoding_size};
 ghost use Rattle.break_counts.specs.BreakCounts.{are_few};
 ghost use Rattle.solve.specs.Solutions.{RefutesLeague};
 ghost use Rattle.venue_counts.specs.VenueCounts.{are_crowded, are_short};

@@ -9,7 +9,7 @@ ghost use Rattle.league.specs.Structure.{IsRoundRobin};
 ghost use Rattle.break_counts.specs.BreakCounts.{are_few};
 ghost use Rattle.circle_method.specs.Circle.{double_games};
 ghost use Rattle.encoding.specs.Limit.{KeepsLimit, most_terms};
-ghost use Rattle.encoding_base.specs.Encoding.{encoding_size};
+ghost use Rattle.encoding.specs.Encoding.{encoding_size};
 ghost use Rattle.solve.specs.Solutions.{CostsAtMost, HasSchedule, IsRefuted, IsSolution, IsSolutionBy};
 ghost use Rattle.venue_counts.specs.VenueCounts.{are_crowded, are_short};
 

@@ -4,7 +4,7 @@ ghost use Rattle.std.specs.List.{All};
 ghost use Rattle.std.specs.List.Sorted.{IsPermutation};
 ghost use Rattle.league.specs.Counts.{slot_count};
 ghost use Rattle.league.specs.Instance.{IsGame};
-ghost use Rattle.encoding_base.specs.Variables.{var_count};
+ghost use Rattle.encoding.specs.Variables.{var_count};
 
 use circle_method::double;
 use decoding::shadow;

@@ -5,7 +5,7 @@ ghost use Rattle.league.specs.Counts.{counts_of};
 ghost use Rattle.league.specs.Instance.{Instance};
 ghost use Rattle.break_counts.specs.BreakCounts.{are_few};
 ghost use Rattle.circle_method.specs.Circle.{double_games};
-ghost use Rattle.encoding_base.specs.Encoding.{encoding_size};
+ghost use Rattle.encoding.specs.Encoding.{encoding_size};
 ghost use Rattle.pattern_search.specs.PatternLogs.{IsPatternSpent};
 ghost use Rattle.pattern_search.specs.PatternSets.{IsPatternSet};
 ghost use Rattle.robin_watch.specs.Limits.{IsKeptTo};

@@ -16,7 +16,7 @@ use Rattle.rows.specs.Literals.{Literal, negate}
 use Rattle.rows.specs.Rows.{Row}
 use Rattle.rows.specs.declared.lit.Term.{Term}
 use Rattle.rows.specs.Sums.{Totals, cancelled, count_in, is_same, no_totals, weight_of}
-use Rattle.encoding_sizes.proofs.SizeLemmas.{sum_by-constant}
+use Rattle.encoding.proofs.SizeLemmas.{sum_by-constant}
 use Rattle.refutation.specs.Following.{all_free, is_in_conflict}
 use Rattle.venue_counts.proofs.AddedLemmas.{added-count, added-degree, all_added, terms_of}
 use Rattle.venue_counts.proofs.CancelLaws.{Outnumber, larger-covered, outcounted}

@@ -22,10 +22,10 @@ use Rattle.league.specs.declared.class.Constraint.{Constraint}
 use Rattle.league.specs.declared.class.Side.{Side}
 use Rattle.rows.specs.Literals.{Literal}
 use Rattle.rows.specs.Sums.{literal}
-use Rattle.encoding_base.specs.Encoding.{rows_of}
-use Rattle.encoding_base.specs.Variables.{h_var, var_count}
-use Rattle.encoding_base.proofs.FewLemmas.{slots_few}
-use Rattle.encoding_sizes.proofs.SizeLemmas.{sum_by-constant}
+use Rattle.encoding.specs.Encoding.{rows_of}
+use Rattle.encoding.specs.Variables.{h_var, var_count}
+use Rattle.encoding.proofs.FewLemmas.{slots_few}
+use Rattle.encoding.proofs.SizeLemmas.{sum_by-constant}
 use Rattle.refutation.specs.Steps.{Step}
 use Rattle.refutation.specs.Verdict.{verdict_of}
 use Rattle.refutation.specs.declared.verdict.Verdict.TheVariants.{Accepted}

@@ -9,9 +9,9 @@ use Rattle.league.specs.Counts.{slot_count}
 use Rattle.league.specs.Instance.{are_slots, is_one_side}
 use Rattle.league.specs.declared.class.Side.{Side}
 use Rattle.league.specs.declared.class.Side.TheVariants.{H, A, Both}
-use Rattle.encoding_base.specs.Ascending.{AscendsBy}
-use Rattle.encoding_base.proofs.AscendLemmas.{AscendsBy-low}
-use Rattle.encoding_base.proofs.MeetingOrder.{AreSlots-from_test}
+use Rattle.encoding.specs.Ascending.{AscendsBy}
+use Rattle.encoding.proofs.AscendLemmas.{AscendsBy-low}
+use Rattle.encoding.proofs.MeetingOrder.{AreSlots-from_test}
 use Rattle.venue_counts.specs.VenueCounts.{is_side}
 use Rattle.venue_counts.specs.Keys.{key_of, mask_of}
 

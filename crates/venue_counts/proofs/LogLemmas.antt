@@ -17,10 +17,10 @@ use Rattle.rows.specs.Cardinality.{at_least}
 use Rattle.rows.specs.Literals.{Literal}
 use Rattle.rows.specs.Rows.{Row}
 use Rattle.rows.specs.Sums.{literal}
-use Rattle.encoding_base.specs.Encoding.{rows_of}
-use Rattle.encoding_base.specs.RowRanges.{rows_of_constraint}
-use Rattle.encoding_base.specs.Variables.{h_var}
-use Rattle.encoding_base.proofs.NumberLemmas.{numbers-more}
+use Rattle.encoding.specs.Encoding.{rows_of}
+use Rattle.encoding.specs.RowRanges.{rows_of_constraint}
+use Rattle.encoding.specs.Variables.{h_var}
+use Rattle.encoding.proofs.NumberLemmas.{numbers-more}
 use Rattle.refutation.specs.Following.{row_numbered}
 use Rattle.refutation.specs.Logs.{most_bytes}
 use Rattle.refutation.specs.Steps.{NamesRows, Step}

@@ -20,7 +20,7 @@ use Rattle.league.specs.declared.class.Class.TheVariants.{Ca1, Ca2, Ca3, Ca4, Ga
 use Rattle.league.specs.declared.class.Constraint.{Constraint}
 use Rattle.league.specs.declared.class.Side.{Side}
 use Rattle.league.specs.declared.class.Side.TheVariants.{H, A, Both}
-use Rattle.encoding_sizes.proofs.SizeLemmas.{sum_by-constant}
+use Rattle.encoding.proofs.SizeLemmas.{sum_by-constant}
 use Rattle.venue_counts.specs.VenueCounts.{allowed_by, are_short, are_crowded, are_those, bound_of}
 use Rattle.venue_counts.specs.VenueCounts.{is_crowded_by, is_short_at, is_short_by, is_side}
 use Rattle.venue_counts.specs.Needs.{bounds_at, exceeds, exceeds_at, exceeds_by, is_bounded, need_by, need_of, own_need}

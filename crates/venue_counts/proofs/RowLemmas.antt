@@ -21,11 +21,11 @@ use Rattle.rows.specs.Cardinality.{at_least, at_most, unit}
 use Rattle.rows.specs.Literals.{Literal, negate, no, yes}
 use Rattle.rows.specs.Rows.{Row}
 use Rattle.rows.specs.Sums.{literal}
-use Rattle.encoding_base.specs.Demands.{ca1_rows}
-use Rattle.encoding_base.specs.Encoding.{class_rows, constraint_rows, demands}
-use Rattle.encoding_base.specs.Lists.{venues_in}
-use Rattle.encoding_base.specs.RowRanges.{rows_of_constraint}
-use Rattle.encoding_base.specs.Variables.{h_var}
+use Rattle.encoding.specs.Demands.{ca1_rows}
+use Rattle.encoding.specs.Encoding.{class_rows, constraint_rows, demands}
+use Rattle.encoding.specs.Lists.{venues_in}
+use Rattle.encoding.specs.RowRanges.{rows_of_constraint}
+use Rattle.encoding.specs.Variables.{h_var}
 use Rattle.venue_counts.specs.CountLogs.{slot_row, venue_row}
 use Rattle.venue_counts.specs.Groups.{MakesNeed}
 use Rattle.venue_counts.specs.Needs.{bounds_at, counts_home, need_by, own_need}

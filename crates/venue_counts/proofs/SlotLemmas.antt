@@ -13,14 +13,14 @@ use Rattle.league.specs.Structure.{first_half}
 use Rattle.rows.specs.Cardinality.{at_least, at_most, exactly}
 use Rattle.rows.specs.Literals.{Literal, yes}
 use Rattle.rows.specs.Rows.{Row}
-use Rattle.encoding_base.specs.Encoding.{constraint_rows, rows_of, season_rows}
-use Rattle.encoding_base.specs.Lists.{games_in}
-use Rattle.encoding_base.specs.Season.{break_rows, cell_rows, cell_rows_at, game_needs_home, half_rows, home_needs_game}
-use Rattle.encoding_base.specs.Season.{meeting_rows, slot_rows, team_rows, venue_rows}
-use Rattle.encoding_base.specs.Variables.{h_var, has_breaks}
-use Rattle.encoding_base.proofs.PairLemmas.{length-pairs_of}
-use Rattle.encoding_sizes.proofs.SeasonSizes.{length-meetings_of}
-use Rattle.encoding_sizes.proofs.SizeLemmas.{sum_by-constant, sum_by-same_at}
+use Rattle.encoding.specs.Encoding.{constraint_rows, rows_of, season_rows}
+use Rattle.encoding.specs.Lists.{games_in}
+use Rattle.encoding.specs.Season.{break_rows, cell_rows, cell_rows_at, game_needs_home, half_rows, home_needs_game}
+use Rattle.encoding.specs.Season.{meeting_rows, slot_rows, team_rows, venue_rows}
+use Rattle.encoding.specs.Variables.{h_var, has_breaks}
+use Rattle.encoding.proofs.PairLemmas.{length-pairs_of}
+use Rattle.encoding.proofs.SeasonSizes.{length-meetings_of}
+use Rattle.encoding.proofs.SizeLemmas.{sum_by-constant, sum_by-same_at}
 use Rattle.refutation.specs.Following.{row_numbered}
 use Rattle.venue_counts.specs.CountLogs.{slot_row}
 use Rattle.venue_counts.proofs.MemberLemmas.{got-left, got-right}

@@ -9,8 +9,8 @@ use Rattle.league.specs.declared.class.Side.TheVariants.{H, A}
 use Rattle.rows.specs.Cardinality.{at_least}
 use Rattle.rows.specs.Rows.{Row}
 use Rattle.rows.specs.Sums.{literal}
-use Rattle.encoding_base.specs.Encoding.{rows_of}
-use Rattle.encoding_base.specs.Variables.{h_var, var_count}
+use Rattle.encoding.specs.Encoding.{rows_of}
+use Rattle.encoding.specs.Variables.{h_var, var_count}
 use Rattle.refutation.specs.Following.{row_numbered}
 use Rattle.refutation.specs.Steps.{NamesRows, Step}
 use Rattle.refutation.specs.Steps.Step.{Clause, Linear}

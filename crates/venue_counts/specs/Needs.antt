@@ -9,7 +9,7 @@ use Rattle.league.specs.declared.class.Class.TheVariants.{Ca1}
 use Rattle.league.specs.declared.class.Constraint.{Constraint}
 use Rattle.league.specs.declared.class.Side.{Side}
 use Rattle.league.specs.declared.class.Side.TheVariants.{H, A}
-use Rattle.encoding_base.specs.Encoding.{rows_of}
+use Rattle.encoding.specs.Encoding.{rows_of}
 use Rattle.refutation.specs.Steps.{Step}
 use Rattle.venue_counts.specs.CountLogs.{AddsUp, counted_rows}
 use Rattle.venue_counts.specs.VenueCounts.{allowed_by, are_those, asked_by, bound_of, floor_of, is_side}

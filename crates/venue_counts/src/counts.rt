@@ -3,7 +3,7 @@ ghost use Rattle.std.specs.Prelude.{◌≡◌, ◌≤◌, ◌↔◌, true, is_so
 ghost use Rattle.std.specs.List.{All};
 ghost use Rattle.league.specs.Instance.{IsInstance};
 ghost use Rattle.encoding.specs.Limit.{most_terms};
-ghost use Rattle.encoding_base.specs.Encoding.{encoding_size, rows_of};
+ghost use Rattle.encoding.specs.Encoding.{encoding_size, rows_of};
 ghost use Rattle.refutation.specs.Steps.{NamesRows};
 ghost use Rattle.refutation.specs.Writable.{HasShortLines};
 ghost use Rattle.venue_counts.specs.CountLogs.{AddsUp, IsCrowdedCount, IsRefuting, IsShortCount, counted_rows};

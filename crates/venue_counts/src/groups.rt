@@ -10,7 +10,7 @@ ghost use Rattle.venue_counts.specs.Keys as keys;
 
 use crate::group::Group;
 use crate::limit::Limit;
-use encoding_base::{slot_numbers, team_numbers};
+use encoding::{slot_numbers, team_numbers};
 use league::{Class, Constraint, League, Side};
 use std::alloc::{AllocError, Global};
 use std::collections::BTreeMap;

@@ -1,7 +1,7 @@
 use Rattle.std.proofs.Common.{◌≡◌, ◌≤◌, ◌+◌, ◌-◌, ◌*◌, true, false, ℕ, sym, ap, ◌∙◌, arith}
 use Rattle.std.proofs.lemmas.Nat.{mul-le}
-use Rattle.encoding_base.specs.Encoding.{encoding_size}
-use Rattle.encoding_base.specs.Variables.{has_breaks}
+use Rattle.encoding.specs.Encoding.{encoding_size}
+use Rattle.encoding.specs.Variables.{has_breaks}
 use Rattle.bound_rows.specs.BoundRows.{needs_breaks}
 use Rattle.bound_rows.proofs.CountLemmas.{more_breaks}
 use Rattle.bound_rows.proofs.count.more_terms.Goals as goal

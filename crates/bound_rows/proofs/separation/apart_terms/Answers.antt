@@ -2,7 +2,7 @@ use Rattle.std.proofs.Common.{◌≡◌, ◌≤◌, ℕ, ◌+◌, ◌-◌, ◌*�
 use Rattle.std.proofs.lemmas.Nat.{mul-le}
 use Rattle.std.proofs.lemmas.List.FromFn.{length-range_with_len}
 use Rattle.league.specs.Counts.{slot_count}
-use Rattle.encoding_base.specs.Keys.{held, separation}
+use Rattle.encoding.specs.Keys.{held, separation}
 use Rattle.bound_rows.proofs.SeparationSizes.{part_size-se1, window_terms}
 use Rattle.bound_rows.proofs.separation.apart_terms.Goals as goal
 

@@ -6,7 +6,7 @@ use Rattle.league.specs.Meetings.{pairs_of}
 use Rattle.league.specs.declared.class.Class.{Class}
 use Rattle.league.proofs.FitLemmas.{are_teams-ascending}
 use Rattle.league.proofs.SumLemmas.{sum_by-flat_map}
-use Rattle.encoding_sizes.proofs.ClassSizeLemmas.{pairs_of-ascend}
+use Rattle.encoding.proofs.ClassSizeLemmas.{pairs_of-ascend}
 use Rattle.bound_rows.specs.Parts.{parts_of, se1_parts}
 use Rattle.bound_rows.specs.Sizes.{part_size, parts_size}
 use Rattle.bound_rows.proofs.CountLemmas.{times-comm}

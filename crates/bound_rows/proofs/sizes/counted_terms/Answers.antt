@@ -1,8 +1,8 @@
 use Rattle.std.proofs.Common.{◌<◌, ◌≤◌, List, length, ap, sym, ◌∙◌, arith}
 use Rattle.std.proofs.lemmas.List.{take_all}
 use Rattle.std.specs.List.{sum_by}
-use Rattle.encoding_base.specs.Keys.{subjects_of}
-use Rattle.encoding_base.specs.declared.subjects.Subject.{Subject}
+use Rattle.encoding.specs.Keys.{subjects_of}
+use Rattle.encoding.specs.declared.subjects.Subject.{Subject}
 use Rattle.bound_rows.specs.Sizes.{subject_size}
 use Rattle.bound_rows.proofs.PartSizes.{parts_size-counted, sum_by-more}
 use Rattle.bound_rows.proofs.sizes.counted_terms.Goals as goal

@@ -1,6 +1,6 @@
 use Rattle.std.proofs.Common.{◌≡◌, ◌*◌, ◌≤◌, take}
 use Rattle.std.specs.List.{sum_by}
-use Rattle.encoding_base.specs.Keys.{subjects_of}
+use Rattle.encoding.specs.Keys.{subjects_of}
 use Rattle.bound_rows.specs.Sizes.{subject_size}
 use Rattle.bound_rows.proofs.sizes.counted_terms.Given as goal
 

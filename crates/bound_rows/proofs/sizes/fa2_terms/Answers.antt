@@ -1,6 +1,6 @@
 use Rattle.std.proofs.Common.{ℕ, ◌*◌, length, ap, sym, ◌∙◌, arith}
 use Rattle.std.proofs.lemmas.Nat.{mul-le}
-use Rattle.encoding_base.specs.Keys.{subjects_of}
+use Rattle.encoding.specs.Keys.{subjects_of}
 use Rattle.bound_rows.proofs.PartSizes.{parts_size-fa2}
 use Rattle.bound_rows.proofs.sizes.fa2_terms.Goals as goal
 

@@ -1,6 +1,6 @@
 use Rattle.std.proofs.Common.{ap, ◌∙◌, arith}
-use Rattle.encoding_base.specs.Keys.{Bounded}
-use Rattle.encoding_sizes.proofs.ClassSizeLemmas.{literals_few}
+use Rattle.encoding.specs.Keys.{Bounded}
+use Rattle.encoding.proofs.ClassSizeLemmas.{literals_few}
 use Rattle.bound_rows.specs.Sizes.{bounds_size, key_rows_size}
 use Rattle.bound_rows.proofs.sizes.key_rows_terms.Goals as goal
 

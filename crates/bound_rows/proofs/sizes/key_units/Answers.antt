@@ -1,6 +1,6 @@
 use Rattle.std.proofs.Common.{ap, ◌∙◌, arith}
-use Rattle.encoding_base.specs.Keys.{Bounded}
-use Rattle.encoding_sizes.proofs.ClassSizeLemmas.{literals_few}
+use Rattle.encoding.specs.Keys.{Bounded}
+use Rattle.encoding.proofs.ClassSizeLemmas.{literals_few}
 use Rattle.bound_rows.specs.Sizes.{between_units, key_units}
 use Rattle.bound_rows.proofs.sizes.key_units.Goals as goal
 

@@ -1,7 +1,7 @@
 use Rattle.std.proofs.Common.{◌≡◌, ℕ, ◌+◌, List, ap, ◌∙◌, arith}
 use Rattle.std.proofs.lemmas.List.{take_all}
 use Rattle.std.specs.List.{sum_by}
-use Rattle.encoding_base.specs.Keys.{key_of, places_of}
+use Rattle.encoding.specs.Keys.{key_of, places_of}
 use Rattle.bound_rows.specs.Sizes.{key_rows_size, units_size}
 use Rattle.bound_rows.proofs.sizes.shared_terms.Goals as goal
 

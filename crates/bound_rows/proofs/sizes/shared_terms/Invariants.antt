@@ -1,6 +1,6 @@
 use Rattle.std.proofs.Common.{◌≡◌, ◌*◌, ◌≤◌, take}
 use Rattle.std.specs.List.{sum_by}
-use Rattle.encoding_base.specs.Keys.{key_of}
+use Rattle.encoding.specs.Keys.{key_of}
 use Rattle.bound_rows.specs.Sizes.{key_rows_size}
 use Rattle.bound_rows.proofs.sizes.shared_terms.Given as goal
 

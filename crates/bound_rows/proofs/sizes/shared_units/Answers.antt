@@ -1,7 +1,7 @@
 use Rattle.std.proofs.Common.{ℕ, List, ap, ◌∙◌, arith}
 use Rattle.std.proofs.lemmas.List.{take_all}
 use Rattle.league.specs.Bounds.{largest}
-use Rattle.encoding_base.specs.Keys.{key_of}
+use Rattle.encoding.specs.Keys.{key_of}
 use Rattle.bound_rows.specs.Sizes.{key_units}
 use Rattle.bound_rows.proofs.sizes.shared_units.Goals as goal
 

@@ -1,6 +1,6 @@
 use Rattle.std.proofs.Common.{◌≡◌, ◌≤◌, take}
 use Rattle.league.specs.Bounds.{largest}
-use Rattle.encoding_base.specs.Keys.{key_of}
+use Rattle.encoding.specs.Keys.{key_of}
 use Rattle.bound_rows.specs.Sizes.{key_units}
 use Rattle.bound_rows.proofs.sizes.shared_units.Given as goal
 

@@ -1,5 +1,5 @@
 use Rattle.std.proofs.Common.{◌*◌, ℕ, List, length, ap, sym, ◌∙◌}
-use Rattle.encoding_base.specs.Keys.{places_of}
+use Rattle.encoding.specs.Keys.{places_of}
 use Rattle.bound_rows.proofs.PartSizes.{subject_size-places}
 use Rattle.bound_rows.proofs.sizes.subject_terms.Goals as goal
 

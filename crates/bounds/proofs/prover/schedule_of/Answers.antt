@@ -1,6 +1,6 @@
 use Rattle.std.proofs.Common.{ℕ, arith, ap}
 use Rattle.rows.specs.Values.{assigned}
-use Rattle.encoding_base.specs.Variables.{x_count}
+use Rattle.encoding.specs.Variables.{x_count}
 use Rattle.bounds.proofs.ProofLemmas.{games-le, lower-of}
 use Rattle.bounds.proofs.prover.schedule_of.Goals as goal
 

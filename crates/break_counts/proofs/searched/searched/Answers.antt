@@ -1,7 +1,7 @@
 use Rattle.std.proofs.Common.{ℕ, ◌≤◌, List, None, subst}
 use Rattle.rows.specs.Rows.{Row, SatisfiesAll}
 use Rattle.rows.specs.Values.{assigned}
-use Rattle.encoding_base.specs.Encoding.{rows_of}
+use Rattle.encoding.specs.Encoding.{rows_of}
 use Rattle.clause_search.specs.Answers.{IsAnswer, Refutes}
 use Rattle.clause_search.specs.declared.found.Found.{Found}
 use Rattle.break_counts.proofs.SearchLemmas.{few-unsatisfied, refuting}

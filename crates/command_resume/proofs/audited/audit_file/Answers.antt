@@ -2,7 +2,7 @@ use Rattle.std.proofs.Common.{ℕ, List, Option, subst, sym}
 use Rattle.robin_io.specs.Outside.{Store, store_between}
 use Rattle.robin_io.proofs.StoreLemmas.{rest-between}
 use Rattle.league.specs.Counts.{counts_of}
-use Rattle.encoding_base.specs.Variables.{var_count}
+use Rattle.encoding.specs.Variables.{var_count}
 use Rattle.answers.specs.SeenReply.{answer_of}
 use Rattle.answers.specs.Stages.{Outcome}
 use Rattle.answers.specs.declared.refusal.Refusal.{Refusal}

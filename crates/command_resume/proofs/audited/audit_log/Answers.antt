@@ -1,7 +1,7 @@
 use Rattle.std.proofs.Common.{◌≡◌, ◌≤◌, Option, ℕ, List, codes, subst, sym}
 use Rattle.robin_io.specs.Outside.{Store, store_between}
 use Rattle.league.specs.Counts.{slot_count}
-use Rattle.encoding_base.specs.Variables.{var_count}
+use Rattle.encoding.specs.Variables.{var_count}
 use Rattle.refutation.specs.Logs.{log_of}
 use Rattle.answers.specs.SeenReply.{Answers}
 use Rattle.answers.specs.Stages.{reads}

@@ -1,4 +1,4 @@
-use Rattle.encoding_base.specs.Variables.{var_count}
+use Rattle.encoding.specs.Variables.{var_count}
 use Rattle.league.specs.Counts.{counts_of}
 use Rattle.pattern_search.proofs.LogLemmas.{refuted-clauses}
 use Rattle.resume_rows.specs.Kept.{resume_rows}

@@ -1,6 +1,6 @@
 use Rattle.std.proofs.Common.{◌≤◌, inl, ap, refl, ◌∙◌}
 use Rattle.encoding.specs.Limit.{most_terms}
-use Rattle.encoding_base.specs.Encoding.{encoding_size}
+use Rattle.encoding.specs.Encoding.{encoding_size}
 use Rattle.command_rows.specs.Rowed.{league_system, rows_answer}
 use Rattle.command_rows.proofs.rows_stages.rows_of_league.Goals as goal
 

@@ -4,8 +4,8 @@ use Rattle.league.specs.Instance.{Instance}
 use Rattle.answers.specs.SeenReply.{answer_of}
 use Rattle.rows.specs.Rows.{Row}
 use Rattle.rows.specs.Values.{assigned}
-use Rattle.encoding_base.specs.Encoding.{rows_of}
-use Rattle.encoding_base.specs.Known.{AreKnown}
+use Rattle.encoding.specs.Encoding.{rows_of}
+use Rattle.encoding.specs.Known.{AreKnown}
 use Rattle.command_rows.specs.Valued.{IsSeason, found_of, missed_answer, missed_from}
 use Rattle.command_rows.proofs.MetLemmas.{all-met}
 use Rattle.command_rows.proofs.ValuesStages.{found-given}

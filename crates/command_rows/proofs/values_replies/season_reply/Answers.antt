@@ -5,7 +5,7 @@ use Rattle.league.specs.Instance.{Instance}
 use Rattle.league.specs.declared.game.Game.{Game}
 use Rattle.robinx_form.specs.Texts.{solution_text}
 use Rattle.rows.specs.Values.{assigned}
-use Rattle.encoding_base.specs.Shadow.{decoded}
+use Rattle.encoding.specs.Shadow.{decoded}
 use Rattle.decoding.proofs.GameLemmas.{accepted_few, accepted_fit}
 use Rattle.command_rows.proofs.values_replies.season_reply.Goals as goal
 

@@ -3,7 +3,7 @@ use Rattle.std.proofs.lemmas.Result.{IfOk-weaker}
 use Rattle.league.specs.Instance.{Instance}
 use Rattle.answers.specs.SeenReply.{answer_of}
 use Rattle.rows.specs.Values.{assigned}
-use Rattle.encoding_base.specs.Encoding.{rows_of}
+use Rattle.encoding.specs.Encoding.{rows_of}
 use Rattle.command_rows.specs.Valued.{IsValued, found_of, missed_from}
 use Rattle.command_rows.proofs.values_replies.values_reply.Goals as goal
 

@@ -11,7 +11,7 @@ use Rattle.answers.specs.Stages.{IsFile, IsUnread}
 use Rattle.answers.proofs.StageLemmas.{Answers-wider, unread-end}
 use Rattle.command_check.specs.Check.{most_log_bytes}
 use Rattle.encoding.specs.Limit.{most_terms}
-use Rattle.encoding_base.specs.Encoding.{encoding_size}
+use Rattle.encoding.specs.Encoding.{encoding_size}
 use Rattle.command_rows.proofs.ValuesStages.{valued-large, valued-last, valued-unread}
 use Rattle.command_rows.proofs.values_stages.values_file.Goals as goal
 

@@ -2,7 +2,7 @@
 use Rattle.std.proofs.Common.{ℕ, List, ◌++◌, ap, ◌∙◌}
 use Rattle.league.specs.declared.game.Game.{Game}
 use Rattle.rows.specs.Values.{assigned}
-use Rattle.encoding_base.specs.Shadow.{game_of}
+use Rattle.encoding.specs.Shadow.{game_of}
 use Rattle.decoding.specs.TrueGames.{true_game}
 use Rattle.decoding.proofs.DecodeLemmas.{flat_map-range_more}
 use Rattle.decoding.proofs.decoder.add_home_games.Goals as goal

@@ -1,7 +1,7 @@
 use Rattle.std.proofs.Common.{◌≡◌, ◌++◌}
 use Rattle.std.specs.List.{flat_map, range_with_len}
 use Rattle.rows.specs.Values.{assigned}
-use Rattle.encoding_base.specs.Shadow.{game_of}
+use Rattle.encoding.specs.Shadow.{game_of}
 use Rattle.decoding.specs.TrueGames.{true_game}
 use Rattle.decoding.proofs.decoder.add_home_games.Given as goal
 

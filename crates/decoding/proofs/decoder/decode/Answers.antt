@@ -1,8 +1,8 @@
 -- What the variables of games say is what the whole assignment decodes to.
 use Rattle.std.proofs.Common.{ℕ, arith, ap, ◌∙◌}
 use Rattle.rows.specs.Values.{assigned}
-use Rattle.encoding_base.specs.Shadow.{decoded}
-use Rattle.encoding_base.specs.Variables.{x_count}
+use Rattle.encoding.specs.Shadow.{decoded}
+use Rattle.encoding.specs.Variables.{x_count}
 use Rattle.decoding.proofs.DecodeLemmas.{accepted}
 use Rattle.decoding.proofs.decoder.decode.Goals as goal
 

@@ -5,8 +5,8 @@ use Rattle.league.specs.Counts.{counts_of}
 use Rattle.league.specs.Instance.{IsGame}
 use Rattle.league.specs.declared.game.Game.{Game}
 use Rattle.rows.specs.Values.{assigned}
-use Rattle.encoding_base.specs.Shadow.{IsShadow}
-use Rattle.encoding_base.specs.Variables.{has_breaks}
+use Rattle.encoding.specs.Shadow.{IsShadow}
+use Rattle.encoding.specs.Variables.{has_breaks}
 use Rattle.decoding.proofs.Faithful.{rows-from_accepted}
 use Rattle.decoding.proofs.ShadowLaw.{IsShadow-from_marks}
 use Rattle.decoding.proofs.MarkLemmas.{assigned-empty}

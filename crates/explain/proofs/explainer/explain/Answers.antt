@@ -1,5 +1,5 @@
 use Rattle.std.proofs.Common.{arith, subst}
-use Rattle.encoding_base.specs.Variables.{var_count}
+use Rattle.encoding.specs.Variables.{var_count}
 use Rattle.explain.specs.Attempts.{IsAttempt, IsMet, IsRefuted}
 use Rattle.explain.specs.declared.attempt.Attempt.{Attempt}
 use Rattle.explain.proofs.ConflictLemmas.{not_spent_by}

@@ -1,7 +1,7 @@
 use Rattle.std.proofs.Common.{◌≤◌, IfOk, length, ap, subst, sym, ◌∙◌}
 use Rattle.league.specs.Instance.{Instance}
 use Rattle.encoding.specs.Limit.{most_terms}
-use Rattle.encoding_base.specs.Encoding.{encoding_size}
+use Rattle.encoding.specs.Encoding.{encoding_size}
 use Rattle.explain.specs.Used.{AreNamed}
 use Rattle.explain.proofs.NamedLemmas.{length-numbered}
 use Rattle.explain.proofs.names.named.Goals as goal

@@ -1,5 +1,5 @@
 use Rattle.std.proofs.Common.{◌≡◌, Bool, List, ℕ, length, ap, arith, subst, sym, ◌∙◌}
-use Rattle.encoding_base.specs.Encoding.{rows_of}
+use Rattle.encoding.specs.Encoding.{rows_of}
 use Rattle.rows.specs.Rows.{Row}
 use Rattle.explain.specs.Used.{IsMarked}
 use Rattle.explain.proofs.NamedLemmas.{AreNamedSoFar, named-all, named-flagged, named-none, named-unflagged}

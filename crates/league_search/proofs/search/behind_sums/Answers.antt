@@ -1,4 +1,4 @@
-use Rattle.encoding_base.specs.Variables.{var_count}
+use Rattle.encoding.specs.Variables.{var_count}
 use Rattle.league_search.proofs.FoundLemmas.{few_here, found_here, refuted-behind, refuted-clauses, satisfied-behind}
 use Rattle.league_search.proofs.FoundLemmas.{spent-behind, spent-clauses}
 use Rattle.league_search.proofs.search.behind_sums.Goals as goal

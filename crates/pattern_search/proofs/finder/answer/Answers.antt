@@ -1,5 +1,5 @@
 use Rattle.std.proofs.Common.{◌≡◌, ℕ, ◌-◌, List, Option, length, ap, subst, ◌∙◌}
-use Rattle.encoding_base.specs.Variables.{var_count}
+use Rattle.encoding.specs.Variables.{var_count}
 use Rattle.rows.specs.Rows.{Row}
 use Rattle.clause_search.specs.Answers.{IsAnswer}
 use Rattle.clause_search.specs.declared.found.Found.{Found}

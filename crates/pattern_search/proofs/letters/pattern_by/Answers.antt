@@ -1,6 +1,6 @@
 use Rattle.std.proofs.Common.{◌≡◌, ℕ, ◌-◌, length, arith, ap, ◌∙◌}
 use Rattle.league.specs.declared.class.Side.{Side}
-use Rattle.encoding_base.specs.Variables.{h_var}
+use Rattle.encoding.specs.Variables.{h_var}
 use Rattle.patterns.proofs.PatternLemmas.{length-made, made-more}
 use Rattle.rows.specs.Values.{assigned}
 use Rattle.pattern_search.specs.Letters.{lowered, side_of}

@@ -1,6 +1,6 @@
 use Rattle.std.proofs.Common.{◌≡◌, ap, subst, sym, ◌∙◌}
 use Rattle.league.specs.Instance.{IsInstance}
-use Rattle.encoding_base.specs.Variables.{var_count}
+use Rattle.encoding.specs.Variables.{var_count}
 use Rattle.refutation.specs.Verdict.{verdict_of}
 use Rattle.refutation.specs.declared.verdict.Verdict.TheVariants.{Accepted}
 use Rattle.resume_rows.specs.Systems.{PartlyPlayed, rows_for}

@@ -1,7 +1,7 @@
 use Rattle.std.proofs.Common.{◌≤◌, List, subst, sym}
 use Rattle.std.specs.List.{All}
 use Rattle.std.proofs.lemmas.List.Elements.{All-push}
-use Rattle.encoding_base.specs.Variables.{x_count}
+use Rattle.encoding.specs.Variables.{x_count}
 use Rattle.rows.specs.Literals.{Literal}
 use Rattle.resume.proofs.plan.preferred.Goals as goal
 

@@ -1,6 +1,6 @@
 use Rattle.std.proofs.Common.{◌≤◌}
 use Rattle.std.specs.List.{All}
-use Rattle.encoding_base.specs.Variables.{x_count}
+use Rattle.encoding.specs.Variables.{x_count}
 use Rattle.resume.proofs.plan.preferred.Given as goal
 
 -- the literals of the games so far

@@ -3,7 +3,7 @@ use Rattle.std.specs.List.{All}
 use Rattle.league.specs.Instance.{IsGame}
 use Rattle.league.specs.declared.game.Game.{Game}
 use Rattle.rows.specs.Values.{assigned}
-use Rattle.encoding_base.specs.Shadow.{decoded}
+use Rattle.encoding.specs.Shadow.{decoded}
 use Rattle.decoding.proofs.DecodeLemmas.{accepted}
 use Rattle.decoding.proofs.GameLemmas.{accepted_few, decoded_fit}
 use Rattle.resume.proofs.resumer.priced.Goals as goal

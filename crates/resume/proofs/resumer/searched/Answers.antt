@@ -1,6 +1,6 @@
 use Rattle.std.proofs.Common.{ap, subst}
 use Rattle.league.specs.Counts.{counts_of}
-use Rattle.encoding_base.specs.Variables.{var_count}
+use Rattle.encoding.specs.Variables.{var_count}
 use Rattle.clause_search.specs.Answers.{IsAnswer}
 use Rattle.resume_rows.specs.Systems.{PartlyPlayed, rows_for}
 use Rattle.resume.proofs.AnswerLemmas.{meets_league, told_resumed}

@@ -1,5 +1,5 @@
 use Rattle.std.proofs.Common.{List, ℕ, [], ◌∷◌, ◌++◌, ap, sym, ◌∙◌}
-use Rattle.encoding_base.proofs.NumberLemmas.{numbers-more}
+use Rattle.encoding.proofs.NumberLemmas.{numbers-more}
 use Rattle.resume_rows.proofs.system.all_teams.Goals as goal
 
 pub loop-team-preserved : goal.loop-team-preserved

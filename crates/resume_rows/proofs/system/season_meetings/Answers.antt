@@ -1,5 +1,5 @@
 use Rattle.std.proofs.Common.{◌∙◌}
-use Rattle.encoding_base.proofs.NumberLemmas.{meetings_are, meetings_few, meetings_of-teams}
+use Rattle.encoding.proofs.NumberLemmas.{meetings_are, meetings_few, meetings_of-teams}
 use Rattle.resume_rows.proofs.system.season_meetings.Goals as goal
 
 pub returns-clause-meetings : goal.returns-clause-meetings

@@ -1,7 +1,7 @@
 use Rattle.std.proofs.Common.{◌≤◌, List, subst, sym}
 use Rattle.std.specs.List.{All}
 use Rattle.std.proofs.lemmas.List.Elements.{All-push}
-use Rattle.encoding_base.specs.Variables.{var_count}
+use Rattle.encoding.specs.Variables.{var_count}
 use Rattle.rows.specs.Literals.{Literal}
 use Rattle.solve.proofs.prefer.add_venues.Goals as goal
 

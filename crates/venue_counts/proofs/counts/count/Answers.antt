@@ -1,5 +1,5 @@
 use Rattle.std.proofs.Common.{arith, sym, true, ◌≡◌, ◌∙◌}
-use Rattle.encoding_base.proofs.FewLemmas.{slots_few}
+use Rattle.encoding.proofs.FewLemmas.{slots_few}
 use Rattle.venue_counts.specs.Groups.{IsGroup}
 use Rattle.venue_counts.specs.Needs.{exceeds_at}
 use Rattle.venue_counts.proofs.CountedLemmas.{all-within, count-accepted, exceeds-from, item-exceeds}

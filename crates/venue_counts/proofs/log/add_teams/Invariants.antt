@@ -1,5 +1,5 @@
 use Rattle.std.proofs.Common.{◌++◌, map}
-use Rattle.encoding_base.specs.Encoding.{rows_of}
+use Rattle.encoding.specs.Encoding.{rows_of}
 use Rattle.venue_counts.specs.CountLogs.{AreNamed, slot_row, team_row}
 use Rattle.venue_counts.specs.Needs.{counts_home, need_of}
 use Rattle.venue_counts.proofs.LogLemmas.{needing}

@@ -1,6 +1,6 @@
 use Rattle.std.proofs.Common.{List, length, subst, ◌<◌, ◌^◌}
 use Rattle.rows.specs.Rows.{Row}
-use Rattle.encoding_base.specs.Encoding.{rows_of}
+use Rattle.encoding.specs.Encoding.{rows_of}
 use Rattle.venue_counts.proofs.CountedLemmas.{counted-few}
 use Rattle.venue_counts.proofs.LogLemmas.{adds-up-as, names-rows, short-lines}
 use Rattle.venue_counts.proofs.log.log_of.Goals as goal

@@ -1,7 +1,7 @@
 use Rattle.std.proofs.Common.{ℕ, ◌+◌, List, [], arith, map, subst, sym, take}
 use Rattle.std.proofs.lemmas.List.{take_all}
 use Rattle.league.proofs.FitLemmas.{are_slots-below}
-use Rattle.encoding_base.specs.Encoding.{rows_of}
+use Rattle.encoding.specs.Encoding.{rows_of}
 use Rattle.refutation.specs.declared.step.Part.{Part}
 use Rattle.venue_counts.specs.CountLogs.{AreNamed, slot_row}
 use Rattle.venue_counts.proofs.LogLemmas.{named-none, named-slot}

@@ -1,5 +1,5 @@
 use Rattle.std.proofs.Common.{map, take}
-use Rattle.encoding_base.specs.Encoding.{rows_of}
+use Rattle.encoding.specs.Encoding.{rows_of}
 use Rattle.venue_counts.specs.CountLogs.{AreNamed, slot_row}
 use Rattle.venue_counts.proofs.log.slot_parts.Given as goal
 

@@ -1,9 +1,9 @@
 use Rattle.std.proofs.Common.{ℕ, not, length, map, arith, ap, ◌∙◌}
 use Rattle.std.proofs.lemmas.Option.{slice_get_within}
 use Rattle.league.specs.Instance.{are_slots}
-use Rattle.encoding_base.specs.Encoding.{rows_of}
-use Rattle.encoding_base.specs.RowRanges.{rows_of_constraint}
-use Rattle.encoding_base.specs.Variables.{h_var}
+use Rattle.encoding.specs.Encoding.{rows_of}
+use Rattle.encoding.specs.RowRanges.{rows_of_constraint}
+use Rattle.encoding.specs.Variables.{h_var}
 use Rattle.rows.specs.Cardinality.{at_least}
 use Rattle.rows.specs.Sums.{literal}
 use Rattle.venue_counts.specs.CountLogs.{team_row}

@@ -3,7 +3,7 @@ use Rattle.std.proofs.lemmas.List.{map_more, take_all}
 use Rattle.league.proofs.FitLemmas.{are_slots-below}
 use Rattle.rows.specs.Literals.{Literal}
 use Rattle.rows.specs.Sums.{literal}
-use Rattle.encoding_base.specs.Variables.{h_var}
+use Rattle.encoding.specs.Variables.{h_var}
 use Rattle.venue_counts.proofs.numbers.venue_literals.Goals as goal
 
 pub h_at-requires : goal.h_at-requires

@@ -1,6 +1,6 @@
 use Rattle.std.proofs.Common.{◌≡◌, map, take}
 use Rattle.rows.specs.Sums.{literal}
-use Rattle.encoding_base.specs.Variables.{h_var}
+use Rattle.encoding.specs.Variables.{h_var}
 use Rattle.venue_counts.proofs.numbers.venue_literals.Given as goal
 
 -- the literals so far

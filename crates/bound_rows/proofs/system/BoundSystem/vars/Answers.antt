@@ -1,5 +1,5 @@
 use Rattle.std.proofs.Common.{subst}
-use Rattle.encoding_base.specs.Known.{AreKnown}
+use Rattle.encoding.specs.Known.{AreKnown}
 use Rattle.bound_rows.specs.BoundRows.{bound_rows, bound_vars}
 use Rattle.bound_rows.specs.Bounded.{Bounded}
 use Rattle.bound_rows.proofs.KnownLemmas.{bound_rows-known}

@@ -1,6 +1,6 @@
 use Rattle.std.proofs.Common.{◌≡◌, ℕ, ◌-◌, ◌<◌, List, Some, length, ap, arith, ◌∙◌}
-use Rattle.encoding_base.proofs.RowRangeLemmas.{row_of-once}
-use Rattle.encoding_base.specs.RowRanges.{IsRowOf, first_rows}
+use Rattle.encoding.proofs.RowRangeLemmas.{row_of-once}
+use Rattle.encoding.specs.RowRanges.{IsRowOf, first_rows}
 use Rattle.encoding.proofs.OwnerLemmas.{none_before, none_behind, owner, starts-order, starts-seen}
 use Rattle.encoding.proofs.encoding.Encoding.constraint_of.Goals as goal
 use Rattle.encoding.proofs.encoding.Encoding.constraint_of.Goals.{then-begun-eq0-via-else-begun-eq0+then-begun-len}

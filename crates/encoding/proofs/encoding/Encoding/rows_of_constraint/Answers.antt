@@ -1,6 +1,6 @@
 use Rattle.std.proofs.Common.{◌≡◌, ℕ, ◌+◌, ◌≤◌, length, arith, ◌∙◌}
-use Rattle.encoding_base.proofs.RowRangeLemmas.{first_row-order, first_row-within}
-use Rattle.encoding_base.specs.RowRanges.{first_row, first_rows}
+use Rattle.encoding.proofs.RowRangeLemmas.{first_row-order, first_row-within}
+use Rattle.encoding.specs.RowRanges.{first_row, first_rows}
 use Rattle.encoding.proofs.OwnerLemmas.{rows-between, starts-at, starts-long, starts-seen}
 use Rattle.encoding.proofs.encoding.Encoding.rows_of_constraint.Goals as goal
 

@@ -1,7 +1,7 @@
 use Rattle.std.proofs.Common.{subst}
 use Rattle.league.specs.Counts.{counts_of}
-use Rattle.encoding_base.specs.Known.{AreKnown}
-use Rattle.encoding_base.specs.Variables.{var_count}
+use Rattle.encoding.specs.Known.{AreKnown}
+use Rattle.encoding.specs.Variables.{var_count}
 use Rattle.resume_rows.specs.Systems.{PartlyPlayed, rows_for}
 use Rattle.resume_rows.proofs.KnownLemmas.{resume_rows-known}
 use Rattle.resume_rows.proofs.system.ResumeSystem.vars.Goals as goal

@@ -1,4 +1,4 @@
-use Rattle.encoding_base.proofs.FewLemmas.{slots_few}
+use Rattle.encoding.proofs.FewLemmas.{slots_few}
 use Rattle.venue_counts.proofs.groups.Groups.place_of.Goals as goal
 
 pub key_of-key-requires-clause-few : goal.key_of-key-requires-clause-few

@@ -1,0 +1,8 @@
+use Rattle.std.proofs.Common.{arith}
+use Rattle.league.specs.Counts.{slot_count}
+use Rattle.encoding.proofs.AscendLemmas.{AscendsBy-few}
+use Rattle.encoding.proofs.literal_counts.slot_total.Goals as goal
+
+pub returns-clause-few : goal.returns-clause-few
+returns-clause-few c =
+    omega (arith, AscendsBy-few (λ s. s) 0 c.args.slots.now (slot_count c.args.n) c.requires.slots)

@@ -1,0 +1,12 @@
+use Rattle.std.proofs.Common.{◌≡◌, ◌+◌, ◌*◌, ◌≤◌, ◌++◌, length, take}
+use Rattle.std.specs.List.{flat_map}
+use Rattle.league.specs.Counts.{slots_of}
+use Rattle.encoding.specs.Season.{cell_rows_at}
+use Rattle.encoding.proofs.season_rows.add_cell_rows.Given as goal
+
+abbrev pub invariant-loop-team : goal.invariant-loop-team
+invariant-loop-team l = record {
+  so_far : l.draft.rows ≡ l.fn.draft.rows ++ flat_map (λ i. flat_map (cell_rows_at l.season i) (slots_of l.season))
+      (take l.team-index l.teams);
+  few : length l.draft.rows ≤ length l.fn.draft.rows + 156 * l.team-index;
+}

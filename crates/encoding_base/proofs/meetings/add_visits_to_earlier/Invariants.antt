@@ -1,7 +1,0 @@
-use Rattle.std.proofs.Common.{◌≡◌, ◌++◌, map, nat_lt, take}
-use Rattle.std.specs.List.{filter}
-use Rattle.encoding_base.proofs.meetings.add_visits_to_earlier.Given as goal
-
-abbrev pub invariant-loop-other : goal.invariant-loop-other
-invariant-loop-other l = l.meetings.items ≡ l.fn.meetings.items ++ map (λ j. (j, l.team))
-    (filter (λ j. nat_lt j l.team) (take l.other-index l.teams))

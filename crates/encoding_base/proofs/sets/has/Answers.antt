@@ -1,5 +1,0 @@
-use Rattle.encoding_base.proofs.MemberLemmas.{is_in-tells}
-use Rattle.encoding_base.proofs.sets.has.Goals as goal
-
-pub returns : goal.returns
-returns c = is_in-tells _ c.args.team c.args.teams.now c.contains.ensures

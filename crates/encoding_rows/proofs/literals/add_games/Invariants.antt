@@ -1,7 +1,0 @@
-use Rattle.std.proofs.Common.{◌≡◌, ◌++◌, take}
-use Rattle.encoding_base.specs.Lists.{games_in}
-use Rattle.encoding_rows.proofs.literals.add_games.Given as goal
-
-abbrev pub invariant-loop-meeting : goal.invariant-loop-meeting
-invariant-loop-meeting l = l.literals.items ≡ l.fn.literals.items ++ games_in l.n (take l.meeting-index l.meetings)
-    l.slots

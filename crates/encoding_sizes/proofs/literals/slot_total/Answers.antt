@@ -1,8 +1,0 @@
-use Rattle.std.proofs.Common.{arith}
-use Rattle.league.specs.Counts.{slot_count}
-use Rattle.encoding_base.proofs.AscendLemmas.{AscendsBy-few}
-use Rattle.encoding_sizes.proofs.literals.slot_total.Goals as goal
-
-pub returns-clause-few : goal.returns-clause-few
-returns-clause-few c =
-    omega (arith, AscendsBy-few (λ s. s) 0 c.args.slots.now (slot_count c.args.n) c.requires.slots)
