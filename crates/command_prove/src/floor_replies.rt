@@ -14,8 +14,8 @@ ghost use Rattle.command_prove.specs.Told.{CanBeWritten, TellsFloor, TellsMissed
 use crate::prove_replies::{better_reply, floor_text, spent_reply};
 use answers::{Reply, Status};
 use bounds::{Counted, Proved};
+use floors::best_floor;
 use league::League;
-use plane_floors::best_floor;
 use refutation::Log;
 use robin_watch::Watch;
 use std::alloc::{AllocError, Global};

@@ -17,9 +17,8 @@ ghost use Rattle.command_prove.specs.Told.{CanBeWritten, Tells, TellsFloored, Te
 
 use answers::{Reply, Status};
 use bounds::{Counted, Proved, certificate_text};
-use floors::Floor;
+use floors::{Floor, best_floor};
 use league::{League, Schedule};
-use plane_floors::best_floor;
 use refutation::{Log, log_text};
 use robin_watch::Watch;
 use robinx_write::solution_text;

@@ -23,8 +23,8 @@ use Rattle.command_check.proofs.AnswerLemmas.{IsAnswered, answered-as, log-answe
 use Rattle.command_check.proofs.AnswerLemmas.{same_value, says-answered}
 use Rattle.encoding.specs.Variables.{var_count}
 use Rattle.refutation_check.specs.Room.{KeepsRoom}
-use Rattle.resume_rows.specs.Kept.{resume_rows, resume_size}
-use Rattle.resume_rows.specs.Resumable.{NoneResumes}
+use Rattle.resume.specs.Kept.{resume_rows, resume_size}
+use Rattle.resume.specs.Resumable.{NoneResumes}
 use Rattle.command_resume.specs.Audited.{IsVerdict, IsWellFormedAudit, audited}
 use Rattle.command_resume.specs.Near.{IsNear, IsNearBy, IsNearSeason, neared}
 use Rattle.command_resume.specs.Resumed.{IsFound, IsFoundBy, IsPlanned, resumed}

@@ -24,9 +24,9 @@ use Rattle.break_counts.specs.BreakCounts.{are_few}
 use Rattle.break_counts.specs.Sums.{AllowsTooFew}
 use Rattle.break_counts.proofs.SearchLemmas.{few-unsatisfied}
 use Rattle.break_counts.proofs.SumLaws.{too_few-none}
-use Rattle.resume_rows.specs.Kept.{kept_rows, resume_rows}
-use Rattle.resume_rows.specs.Resumable.{NoneResumes}
-use Rattle.resume_rows.specs.Systems.{PartlyPlayed}
+use Rattle.resume.specs.Kept.{kept_rows, resume_rows}
+use Rattle.resume.specs.Resumable.{NoneResumes}
+use Rattle.resume.specs.Systems.{PartlyPlayed}
 use Rattle.command_resume.specs.Counted.{CountsOut, RefutesSeason}
 use Rattle.command_resume.specs.Near.{IsNearBy}
 use Rattle.command_resume.specs.Resumed.{IsCountedOut, IsFoundBy}

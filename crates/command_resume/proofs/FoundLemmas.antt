@@ -29,7 +29,7 @@ use Rattle.clause_search.specs.Answers.{IsSpentAt}
 use Rattle.clause_search.specs.News.{IsTidy}
 use Rattle.clause_search.proofs.SearchLemmas.{news-clauses}
 use Rattle.break_counts.specs.BreakCounts.{are_few}
-use Rattle.resume_rows.specs.Kept.{resume_rows}
+use Rattle.resume.specs.Kept.{resume_rows}
 use Rattle.resume.specs.Answers.{IsResumedSeason, RefutesResuming}
 use Rattle.command_resume.specs.Resumed.{IsFound, IsFoundBy}
 

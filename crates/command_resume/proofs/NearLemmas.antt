@@ -23,7 +23,7 @@ use Rattle.refutation.specs.Logs.{log_of}
 use Rattle.refutation.specs.Steps.{Step}
 use Rattle.refutation.specs.Texts.{log_text}
 use Rattle.break_counts.specs.BreakCounts.{are_few}
-use Rattle.kept_descent.specs.Nearing.{IsNearest}
+use Rattle.resume.specs.Nearing.{IsNearest}
 use Rattle.resume.specs.Answers.{IsPlan, IsResumed, IsResumedSeason}
 use Rattle.resume.specs.Near.{IsNearestAnswer, IsOpenNear, IsSettledNear, changed, open_games}
 use Rattle.resume.specs.declared.near.Neared.{Neared}

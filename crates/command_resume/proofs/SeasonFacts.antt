@@ -24,8 +24,8 @@ use Rattle.refutation.specs.Verdict.{verdict_of}
 use Rattle.refutation.specs.declared.verdict.Cause.TheVariants.{UnknownRow}
 use Rattle.refutation.specs.declared.verdict.Verdict.TheVariants.{Accepted, Rejected}
 use Rattle.command_check.specs.Check.{verdict_answer}
-use Rattle.resume_rows.specs.Kept.{resume_rows, resume_size}
-use Rattle.resume_rows.specs.Resumable.{NoneResumes}
+use Rattle.resume.specs.Kept.{resume_rows, resume_size}
+use Rattle.resume.specs.Resumable.{NoneResumes}
 use Rattle.command_resume.specs.Audited.{IsVerdict, IsWellFormedAudit, audited}
 use Rattle.command_resume.specs.Resumed.{IsFoundBy, resumed}
 use Rattle.command_resume.specs.Seasons.{has_size, has_slots, slot_refused}

@@ -22,8 +22,8 @@ use Rattle.refutation.specs.Steps.{Step}
 use Rattle.refutation.specs.Verdict.{verdict_of}
 use Rattle.command_check.specs.Check.{IsVerdictWithin, most_log_bytes, says_log}
 use Rattle.command_check.proofs.StageLemmas.{is_accepted}
-use Rattle.resume_rows.specs.Kept.{resume_rows, resume_size}
-use Rattle.resume_rows.proofs.Faithful.{accepted_logs_exclude}
+use Rattle.resume.specs.Kept.{resume_rows, resume_size}
+use Rattle.resume.proofs.Faithful.{accepted_logs_exclude}
 use Rattle.command_resume.specs.Audited.{IsVerdict, audited}
 use Rattle.command_resume.specs.Seasons.{has_size, has_slots, plays}
 use Rattle.command_resume.specs.SeenSeason.{IsSaid}

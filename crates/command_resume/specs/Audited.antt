@@ -16,8 +16,8 @@ use Rattle.refutation.specs.Steps.{Step}
 use Rattle.refutation.specs.Logs.{log_of}
 use Rattle.refutation_check.specs.Room.{KeepsRoom}
 use Rattle.command_check.specs.Check.{IsVerdictOver, LogPassesRoom, most_log_bytes, says_log}
-use Rattle.resume_rows.specs.Kept.{resume_rows}
-use Rattle.resume_rows.specs.Resumable.{NoneResumes}
+use Rattle.resume.specs.Kept.{resume_rows}
+use Rattle.resume.specs.Resumable.{NoneResumes}
 use Rattle.command_resume.specs.Seasons.{IsWellFormedSeason, plays}
 
 -- The verdict on a log over the resume rows. It is said only where the steps of the log keep to a limit. Where it says

@@ -10,7 +10,7 @@ use Rattle.refutation.specs.Verdict.{verdict_of}
 use Rattle.refutation.specs.Writable.{HasShortLines}
 use Rattle.refutation.specs.declared.verdict.Verdict.TheVariants.{Accepted}
 use Rattle.break_counts.specs.Sums.{AllowsTooFew}
-use Rattle.resume_rows.specs.Kept.{resume_rows}
+use Rattle.resume.specs.Kept.{resume_rows}
 
 -- a log that is accepted over the resume rows, and whose text can be written and read back
 pub record RefutesSeason (league : Instance) (played : List Game) (k : ℕ) (steps : List Step) : Type 0 where

@@ -14,7 +14,7 @@ use Rattle.answers.specs.Reply.{Answer}
 use Rattle.answers.specs.Stages.{◌>>=◌, Outcome}
 use Rattle.answers.specs.declared.status.Status.TheVariants.{Yes}
 use Rattle.break_counts.specs.BreakCounts.{are_few}
-use Rattle.kept_descent.specs.Nearing.{IsNearest}
+use Rattle.resume.specs.Nearing.{IsNearest}
 use Rattle.resume.specs.Answers.{IsResumedSeason}
 use Rattle.resume.specs.Near.{changed, open_games}
 use Rattle.command_resume.specs.Resumed.{IsBudgetSpent, IsCountedOut, IsExcluded}

@@ -22,8 +22,8 @@ use Rattle.refutation.specs.declared.verdict.Verdict.TheVariants.{Accepted}
 use Rattle.break_counts.specs.BreakCounts.{are_few}
 use Rattle.break_counts.specs.Sums.{AllowsTooFew}
 use Rattle.clause_search.specs.Answers.{IsSpentAt}
-use Rattle.resume_rows.specs.Kept.{resume_rows}
-use Rattle.resume_rows.specs.Resumable.{NoneResumes}
+use Rattle.resume.specs.Kept.{resume_rows}
+use Rattle.resume.specs.Resumable.{NoneResumes}
 use Rattle.resume.specs.Answers.{IsResumedSeason, RefutesResuming}
 use Rattle.command_resume.specs.Seasons.{plays}
 

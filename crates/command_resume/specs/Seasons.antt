@@ -11,7 +11,7 @@ use Rattle.robinx_read.specs.declared.instance.TheConstants.{INSTANCE_LIMIT, SOL
 use Rattle.answers.specs.Reply.{Answer, too_large}
 use Rattle.answers.specs.Stages.{◌>>=◌, Outcome, reads, says}
 use Rattle.answers.specs.declared.status.Status.TheVariants.{File}
-use Rattle.resume_rows.specs.Kept.{resume_size}
+use Rattle.resume.specs.Kept.{resume_size}
 use Rattle.command_resume.specs.declared.season.Season.{Season}
 use Rattle.encoding.specs.Limit.{most_terms}
 

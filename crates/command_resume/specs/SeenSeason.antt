@@ -6,7 +6,7 @@ use Rattle.robinx_form.specs.InstanceFile.{instance_of}
 use Rattle.robinx_form.specs.SolutionFile.{solution_of}
 use Rattle.robinx_read.specs.declared.instance.TheConstants.{INSTANCE_LIMIT, SOLUTION_LIMIT}
 use Rattle.answers.specs.Stages.{IsFile}
-use Rattle.resume_rows.specs.Kept.{resume_size}
+use Rattle.resume.specs.Kept.{resume_size}
 use Rattle.command_resume.specs.declared.season.Season.{Season}
 use Rattle.encoding.specs.Limit.{most_terms}
 

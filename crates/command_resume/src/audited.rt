@@ -10,7 +10,7 @@ ghost use Rattle.answers.specs.SeenReply.{Answers};
 ghost use Rattle.answers.specs.Stages.{reads};
 ghost use Rattle.command_check.specs.Check.{LogPassesRoom, most_log_bytes, says_log};
 ghost use Rattle.encoding.specs.Variables.{var_count};
-ghost use Rattle.resume_rows.specs.Kept as kept;
+ghost use Rattle.resume.specs.Kept as kept;
 ghost use Rattle.command_resume.specs.Audited.{IsVerdict, LacksRoom, audited};
 ghost use Rattle.encoding.specs.Limit.{most_terms};
 

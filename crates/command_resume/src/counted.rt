@@ -5,7 +5,7 @@ ghost use Rattle.league.specs.Counts as counts;
 ghost use Rattle.league.specs.Instance.{IsGame, IsInstance};
 ghost use Rattle.encoding.specs.Limit.{most_terms};
 ghost use Rattle.break_counts.specs.BreakCounts.{are_few};
-ghost use Rattle.resume_rows.specs.Kept as kept;
+ghost use Rattle.resume.specs.Kept as kept;
 ghost use Rattle.command_resume.specs.Counted.{CountsOut, RefutesSeason};
 
 use crate::audited::system_of;

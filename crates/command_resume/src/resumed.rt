@@ -7,7 +7,7 @@ ghost use Rattle.league.specs.Instance.{IsGame};
 ghost use Rattle.robinx_read.specs.declared.instance.TheConstants.{INSTANCE_LIMIT, SOLUTION_LIMIT};
 ghost use Rattle.answers.specs.SeenReply.{answer_of, Answers};
 ghost use Rattle.break_counts.specs.BreakCounts.{are_few};
-ghost use Rattle.resume_rows.specs.Kept as kept;
+ghost use Rattle.resume.specs.Kept as kept;
 ghost use Rattle.robin_watch.specs.Limits.{IsKeptTo};
 ghost use Rattle.command_resume.specs.Resumed.{IsFoundBy, resumed};
 ghost use Rattle.encoding.specs.Limit.{most_terms};

@@ -7,7 +7,7 @@ ghost use Rattle.league.specs.Counts as counts;
 ghost use Rattle.league.specs.Instance.{IsGame};
 ghost use Rattle.answers.specs.SeenRefusal.{refused_with};
 ghost use Rattle.answers.specs.SeenReply.{answer_of, MatchStage};
-ghost use Rattle.resume_rows.specs.Kept as kept;
+ghost use Rattle.resume.specs.Kept as kept;
 ghost use Rattle.command_resume.specs.Seasons as seasons;
 ghost use Rattle.command_resume.specs.Seasons.{has_size, has_slots, plays};
 ghost use Rattle.command_resume.specs.SeenSeason.{IsSaid};

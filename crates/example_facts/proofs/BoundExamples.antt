@@ -18,7 +18,7 @@ use Rattle.refutation.specs.declared.verdict.Verdict.TheVariants.{Accepted}
 use Rattle.bound_rows.specs.BoundRows.{base_rows, base_vars, bound_rows, bound_size, bound_vars, league_groups, paid_of}
 use Rattle.bound_rows.specs.Parts.{parts_of}
 use Rattle.bound_rows.specs.Softening.{total_cost}
-use Rattle.resume_rows.specs.Kept.{Keeps, kept_rows, resume_rows, resume_size}
+use Rattle.resume.specs.Kept.{Keeps, kept_rows, resume_rows, resume_size}
 
 abbrev soft : ℕ → Class → Constraint
 soft penalty class = record { hard = false; penalty = penalty; class = class }

@@ -21,9 +21,9 @@ use Rattle.refutation.specs.Steps.Step.{Clause}
 use Rattle.refutation.specs.Verdict.{verdict_of}
 use Rattle.refutation.specs.declared.verdict.Verdict.TheVariants.{Accepted}
 use Rattle.refutation_check.proofs.SoundLemmas.{accepted_logs_refute}
-use Rattle.resume_rows.specs.Kept.{is_played, resume_rows, resume_size}
-use Rattle.resume_rows.specs.Resumable.{IsResumption, IsSatisfiable, NoneResumes}
-use Rattle.resume_rows.proofs.Faithful.{accepted_logs_exclude}
+use Rattle.resume.specs.Kept.{is_played, resume_rows, resume_size}
+use Rattle.resume.specs.Resumable.{IsResumption, IsSatisfiable, NoneResumes}
+use Rattle.resume.proofs.Faithful.{accepted_logs_exclude}
 
 -- 0 is at home to 1 in this slot
 abbrev wants : ℕ → Instance

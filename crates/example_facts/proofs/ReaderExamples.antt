@@ -33,8 +33,8 @@ use Rattle.rows.specs.Rows.{Row}
 use Rattle.encoding.specs.Encoding.{rows_of}
 use Rattle.bound_rows.specs.BoundRows.{bound_rows}
 use Rattle.bound_rows.specs.Bounded.{IsCounted, IsSystem}
-use Rattle.resume_rows.specs.Systems.{PartlyPlayed, rows_for}
-use Rattle.resume_rows.specs.Systems as resumed
+use Rattle.resume.specs.Systems.{PartlyPlayed, rows_for}
+use Rattle.resume.specs.Systems as resumed
 use Rattle.descent.specs.Descended.{Descended}
 use Rattle.pattern_search.specs.declared.found.PatternFound.TheVariants as patterns
 use Rattle.solve.specs.Solutions.{HasSchedule, IsRefuted}

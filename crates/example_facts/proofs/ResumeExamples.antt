@@ -32,9 +32,9 @@ use Rattle.refutation.specs.Steps.Step.{Clause}
 use Rattle.refutation.specs.declared.verdict.Cause.TheVariants.{UnknownRow}
 use Rattle.refutation.specs.declared.verdict.Verdict.TheVariants.{Accepted, Rejected}
 use Rattle.clause_search.specs.News.{IsTidy}
-use Rattle.resume_rows.specs.Kept.{Keeps, resume_rows, resume_size}
-use Rattle.resume_rows.specs.Resumable.{NoneResumes}
-use Rattle.resume_rows.proofs.Faithful.{accepted_logs_exclude}
+use Rattle.resume.specs.Kept.{Keeps, resume_rows, resume_size}
+use Rattle.resume.specs.Resumable.{NoneResumes}
+use Rattle.resume.proofs.Faithful.{accepted_logs_exclude}
 use Rattle.resume.specs.Answers.{IsPlan, IsResumedSeason, RefutesResuming}
 use Rattle.resume.specs.declared.resumed.Resumed.TheVariants as resumed
 use Rattle.command_resume.specs.Seasons.{IsWellFormedSeason, SaySeason}

@@ -31,7 +31,7 @@ use Rattle.refutation.specs.declared.verdict.Verdict.TheVariants.{Accepted, Reje
 use Rattle.clause_search.specs.Answers.{IsSpentAt}
 use Rattle.clause_search.specs.News.{IsTidy}
 use Rattle.command_check.specs.Check.{most_log_bytes, verdict_answer}
-use Rattle.resume_rows.specs.Kept.{is_played, resume_rows}
+use Rattle.resume.specs.Kept.{is_played, resume_rows}
 use Rattle.resume.specs.Answers.{IsResumed}
 use Rattle.resume.specs.declared.resumed.Resumed.TheVariants as resumed
 use Rattle.command_resume.specs.Audited.{IsVerdict, IsWellFormedAudit, audited}

@@ -25,9 +25,9 @@ use Rattle.refutation_check.specs.Within.{AreWithin, IsWithin}
 use Rattle.clause_search.specs.Answers.{IsAnswer, IsSpentAt, Refutes}
 use Rattle.clause_search.specs.declared.found.Found.{Found}
 use Rattle.clause_search.specs.declared.found.Found.TheVariants as found
-use Rattle.resume_rows.specs.Kept.{kept_rows, resume_rows}
-use Rattle.resume_rows.specs.Resumable.{IsResumption}
-use Rattle.resume_rows.proofs.Faithful.{accepted_logs_exclude, resumption-from_rows}
+use Rattle.resume.specs.Kept.{kept_rows, resume_rows}
+use Rattle.resume.specs.Resumable.{IsResumption}
+use Rattle.resume.proofs.Faithful.{accepted_logs_exclude, resumption-from_rows}
 use Rattle.decoding.proofs.GameLemmas.{decoded_fit}
 use Rattle.resume.specs.Answers.{IsResumed, IsResumedSeason}
 use Rattle.resume.specs.Found.{MeetsLeague, Tells}

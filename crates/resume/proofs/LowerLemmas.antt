@@ -3,16 +3,16 @@ use Rattle.std.proofs.Common.{◌≡◌, ℕ, ◌≤◌, Bool, nat_lt, List, [],
 use Rattle.std.specs.List.{All}
 use Rattle.std.specs.List.Sorted.{IsPermutation}
 use Rattle.std.proofs.lemmas.List.Sorted.{All-permutation}
-use Rattle.kept_descent.specs.Changed.{IsAtMost}
-use Rattle.kept_descent.specs.Nearing.{IsEnd}
-use Rattle.kept_descent.specs.declared.nearest.Nearest.{Nearest}
+use Rattle.resume.specs.Changed.{IsAtMost}
+use Rattle.resume.specs.Nearing.{IsEnd}
+use Rattle.resume.specs.declared.nearest.Nearest.{Nearest}
 use Rattle.league.specs.Accepted.{objective}
 use Rattle.league.specs.Counts.{Counts, counts_of}
 use Rattle.league.specs.Instance.{Instance, IsGame}
 use Rattle.league.specs.Structure.{IsRoundRobin}
 use Rattle.league.specs.declared.game.Game.{Game}
 use Rattle.league.proofs.CountLemmas.{counts_of-permutation}
-use Rattle.resume_rows.specs.Kept.{Keeps}
+use Rattle.resume.specs.Kept.{Keeps}
 use Rattle.resume.specs.Answers.{IsResumedSeason}
 use Rattle.resume.specs.Merged.{merged_games}
 use Rattle.resume.specs.Near.{changed}

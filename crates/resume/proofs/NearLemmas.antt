@@ -8,7 +8,7 @@ use Rattle.std.proofs.lemmas.List.Sums.{sum_by-cons}
 use Rattle.league.specs.Counts.{Counts, counts_of, is_game}
 use Rattle.league.specs.declared.game.Game.{Game}
 use Rattle.league.proofs.RangeLemmas.{one_if}
-use Rattle.resume_rows.specs.Kept.{is_played}
+use Rattle.resume.specs.Kept.{is_played}
 use Rattle.league.specs.Instance.{Instance}
 use Rattle.resume.specs.Near.{IsAtMost, IsNearestAnswer, IsNoFarther, IsOpenNear, changed, is_changed, is_open}
 use Rattle.resume.specs.declared.near.Neared.{Neared}

@@ -9,8 +9,8 @@ use Rattle.league.specs.declared.game.Game.{Game}
 use Rattle.encoding.specs.Variables.{var_count}
 use Rattle.refutation.specs.Steps.{Step}
 use Rattle.clause_search.specs.Answers.{IsSpentAt, Refutes}
-use Rattle.resume_rows.specs.Kept.{resume_rows}
-use Rattle.resume_rows.specs.Resumable.{IsResumption, NoneResumes}
+use Rattle.resume.specs.Kept.{resume_rows}
+use Rattle.resume.specs.Resumable.{IsResumption, NoneResumes}
 use Rattle.resume.specs.declared.resumed.Resumed.{Resumed}
 use Rattle.resume.specs.declared.resumed.Resumed.TheVariants.{Schedule, Refuted, Spent}
 

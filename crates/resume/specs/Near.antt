@@ -4,9 +4,9 @@ use Rattle.std.specs.List.{count_by}
 use Rattle.league.specs.Counts.{counts_of}
 use Rattle.league.specs.declared.game.Game.{Game}
 use Rattle.league.specs.Instance.{Instance}
-use Rattle.kept_descent.specs.Nearing.{IsNearest}
+use Rattle.resume.specs.Nearing.{IsNearest}
 use Rattle.resume.specs.declared.near.Neared.{Neared}
-pub use Rattle.kept_descent.specs.Changed.{IsAtMost, changed_on, is_changed, is_open}
+pub use Rattle.resume.specs.Changed.{IsAtMost, changed_on, is_changed, is_open}
 use Rattle.resume.specs.declared.resumed.Resumed.{Resumed}
 use Rattle.resume.specs.declared.resumed.Resumed.TheVariants.{Schedule, Refuted, Spent}
 

@@ -2,7 +2,7 @@
 ghost use Rattle.std.specs.Prelude.{◌≡◌};
 ghost use Rattle.std.specs.List.{list_any};
 ghost use Rattle.league.specs.Counts.{counts_of, is_game};
-ghost use Rattle.resume_rows.specs.Kept as kept;
+ghost use Rattle.resume.specs.Kept as kept;
 ghost use Rattle.resume.specs.Near as near;
 ghost use Rattle.resume.specs.Near.{changed};
 

@@ -7,17 +7,17 @@ ghost use Rattle.league.specs.Instance.{IsGame, IsInstance};
 ghost use Rattle.encoding.specs.Variables.{var_count};
 ghost use Rattle.refutation.specs.Verdict.{verdict_of};
 ghost use Rattle.refutation_check.specs.Judged.{no_step_of};
-ghost use Rattle.resume_rows.specs.Kept as kept;
-ghost use Rattle.resume_rows.specs.Kept.{resume_rows};
-ghost use Rattle.resume_rows.specs.Resumable.{NoneResumes};
-ghost use Rattle.resume_rows.specs.Systems.{rows_for};
+ghost use Rattle.resume.specs.Kept as kept;
+ghost use Rattle.resume.specs.Kept.{resume_rows};
+ghost use Rattle.resume.specs.Resumable.{NoneResumes};
+ghost use Rattle.resume.specs.Systems.{rows_for};
 ghost use Rattle.encoding.specs.Limit.{KeepsLimit};
 
+use crate::system::{ResumeSystem, resume_system};
 use encoding::EncodeFault;
 use league::{League, Schedule};
 use refutation::{Log, Verdict};
 use refutation_check::{Checker, check};
-use resume_rows::{ResumeSystem, resume_system};
 use std::alloc::{AllocError, Global};
 
 /// The verdict on a log over the resume rows. Where it is accepted, no schedule that the league accepts keeps the games

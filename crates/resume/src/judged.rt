@@ -4,7 +4,7 @@ ghost use Rattle.std.specs.List.{All};
 ghost use Rattle.league.specs.Counts.{counts_of};
 ghost use Rattle.league.specs.Instance.{IsGame};
 ghost use Rattle.league.specs.Order.{IsInOrder};
-ghost use Rattle.resume_rows.specs.Kept.{Keeps};
+ghost use Rattle.resume.specs.Kept.{Keeps};
 ghost use Rattle.resume.specs.Answers.{IsResumedSeason};
 
 use deviation::assess;

@@ -10,10 +10,10 @@ ghost use Rattle.encoding.specs.Variables as variables;
 ghost use Rattle.resume.specs.Answers.{IsPlan, IsResumed};
 
 use crate::resumed::Resumed;
+use crate::system::copied;
 use deviation::assess;
 use encoding::x_at;
 use league::{Game, League, Schedule};
-use resume_rows::copied;
 use rows::Lit;
 use std::alloc::{AllocError, Global};
 

@@ -9,9 +9,9 @@ ghost use Rattle.encoding.specs.Shadow.{decoded};
 ghost use Rattle.encoding.specs.Variables as variables;
 ghost use Rattle.resume.specs.Found.{game_if_true};
 
+use crate::system::season_meetings;
 use encoding::x_at;
 use league::{Game, Schedule, SlotId, TeamId, slot_count};
-use resume_rows::season_meetings;
 use rows::Assignment;
 use std::alloc::{AllocError, Global};
 

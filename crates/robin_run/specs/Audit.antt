@@ -8,8 +8,8 @@ use Rattle.answers.specs.declared.status.Status.TheVariants.{Yes, No}
 use Rattle.encoding.specs.Variables.{var_count}
 use Rattle.refutation.specs.Steps.{Step}
 use Rattle.refutation_check.specs.Room.{KeepsRoom}
-use Rattle.resume_rows.specs.Kept.{resume_rows}
-use Rattle.resume_rows.specs.Resumable.{NoneResumes}
+use Rattle.resume.specs.Kept.{resume_rows}
+use Rattle.resume.specs.Resumable.{NoneResumes}
 use Rattle.command_resume.specs.Audited.{IsVerdict, IsWellFormedAudit}
 use Rattle.command_resume.specs.Seasons.{SaySeason}
 use Rattle.robin_run.specs.Run.{NothingFails, Run, Writes}

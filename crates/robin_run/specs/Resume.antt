@@ -6,7 +6,7 @@ use Rattle.league.specs.Instance.{Instance}
 use Rattle.league.specs.declared.game.Game.{Game}
 use Rattle.command_line.specs.Words.{Command}
 use Rattle.answers.specs.declared.status.Status.TheVariants.{Refuted, Yes}
-use Rattle.resume_rows.specs.Resumable.{NoneResumes}
+use Rattle.resume.specs.Resumable.{NoneResumes}
 use Rattle.command_resume.specs.Resumed.{IsFoundBy, IsKeptSeason}
 use Rattle.command_resume.specs.Seasons.{IsWellFormedSeason, SaySeason}
 use Rattle.robin_run.specs.Run.{NothingFails, Run, Writes}

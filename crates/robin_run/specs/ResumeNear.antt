@@ -8,7 +8,7 @@ use Rattle.league.specs.declared.game.Game.{Game}
 use Rattle.robin_watch.specs.declared.budgets.Budgets.{Budgets}
 use Rattle.command_line.specs.Words.{Command}
 use Rattle.answers.specs.declared.status.Status.TheVariants.{Refuted, Yes}
-use Rattle.resume_rows.specs.Resumable.{NoneResumes}
+use Rattle.resume.specs.Resumable.{NoneResumes}
 use Rattle.command_resume.specs.Near.{IsKeptNear, IsNearBy}
 use Rattle.command_resume.specs.Seasons.{IsWellFormedSeason, SaySeason}
 use Rattle.robin_run.specs.Run.{NothingFails, Run, Writes}

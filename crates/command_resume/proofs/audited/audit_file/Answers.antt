@@ -8,7 +8,7 @@ use Rattle.answers.specs.Stages.{Outcome}
 use Rattle.answers.specs.declared.refusal.Refusal.{Refusal}
 use Rattle.answers.proofs.StageLemmas.{Answers-wider}
 use Rattle.command_check.specs.Check.{LogPassesRoom}
-use Rattle.resume_rows.specs.Kept.{resume_rows}
+use Rattle.resume.specs.Kept.{resume_rows}
 use Rattle.command_resume.specs.Audited.{audited}
 use Rattle.command_resume.specs.declared.season.Season.{Season}
 use Rattle.command_resume.proofs.StageLemmas.{at_log, audited-within, plays-wider}

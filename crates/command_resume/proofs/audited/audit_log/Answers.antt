@@ -7,7 +7,7 @@ use Rattle.answers.specs.SeenReply.{Answers}
 use Rattle.answers.specs.Stages.{reads}
 use Rattle.answers.proofs.StageLemmas.{Answers-wider}
 use Rattle.command_check.specs.Check.{LogPassesRoom, most_log_bytes, says_log}
-use Rattle.resume_rows.specs.Systems.{PartlyPlayed, rows_for}
+use Rattle.resume.specs.Systems.{PartlyPlayed, rows_for}
 use Rattle.command_resume.specs.Audited.{IsVerdict}
 use Rattle.command_resume.proofs.StageLemmas.{read-verdict}
 use Rattle.command_resume.proofs.audited.audit_log.Goals as goal

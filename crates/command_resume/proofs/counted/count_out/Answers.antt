@@ -1,6 +1,6 @@
 use Rattle.std.proofs.Common.{◌≡◌, Bool, true, inl, subst, sym}
 use Rattle.break_counts.specs.BreakCounts.{are_few}
-use Rattle.resume_rows.specs.Systems.{PartlyPlayed}
+use Rattle.resume.specs.Systems.{PartlyPlayed}
 use Rattle.command_resume.specs.Counted.{RefutesSeason}
 use Rattle.command_resume.proofs.CountLemmas.{some-told}
 use Rattle.command_resume.proofs.counted.count_out.Goals as goal

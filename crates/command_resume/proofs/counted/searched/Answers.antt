@@ -4,7 +4,7 @@ use Rattle.rows.specs.Values.{assigned}
 use Rattle.encoding.specs.Variables.{var_count}
 use Rattle.clause_search.specs.Answers.{IsAnswer, Refutes}
 use Rattle.clause_search.specs.declared.found.Found.{Found}
-use Rattle.resume_rows.specs.Systems.{rows_for}
+use Rattle.resume.specs.Systems.{rows_for}
 use Rattle.command_resume.proofs.CountLemmas.{few-unresumed, refuting}
 use Rattle.command_resume.proofs.counted.searched.Goals as goal
 

@@ -3,8 +3,8 @@ use Rattle.league.specs.Instance.{IsInstance}
 use Rattle.encoding.specs.Variables.{var_count}
 use Rattle.refutation.specs.Verdict.{verdict_of}
 use Rattle.refutation.specs.declared.verdict.Verdict.TheVariants.{Accepted}
-use Rattle.resume_rows.specs.Systems.{PartlyPlayed, rows_for}
-use Rattle.resume_rows.proofs.Faithful.{accepted_logs_exclude}
+use Rattle.resume.specs.Systems.{PartlyPlayed, rows_for}
+use Rattle.resume.proofs.Faithful.{accepted_logs_exclude}
 use Rattle.resume.proofs.checked.check_resume.Goals as goal
 
 pub returns-clause-none : goal.returns-clause-none

@@ -1,6 +1,6 @@
 use Rattle.std.proofs.Common.{ℕ, subst, sym, ◌∙◌}
 use Rattle.league.specs.Counts.{counts_of}
-use Rattle.kept_descent.specs.Nearing.{IsEnd}
+use Rattle.resume.specs.Nearing.{IsEnd}
 use Rattle.resume.specs.Answers.{IsResumed, IsResumedSeason}
 use Rattle.resume.specs.Near.{IsAtMost, IsNoFarther, IsOpenNear, changed}
 use Rattle.resume.specs.declared.near.Neared.{Neared}

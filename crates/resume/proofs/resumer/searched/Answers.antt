@@ -2,7 +2,7 @@ use Rattle.std.proofs.Common.{ap, subst}
 use Rattle.league.specs.Counts.{counts_of}
 use Rattle.encoding.specs.Variables.{var_count}
 use Rattle.clause_search.specs.Answers.{IsAnswer}
-use Rattle.resume_rows.specs.Systems.{PartlyPlayed, rows_for}
+use Rattle.resume.specs.Systems.{PartlyPlayed, rows_for}
 use Rattle.resume.proofs.AnswerLemmas.{meets_league, told_resumed}
 use Rattle.resume.proofs.resumer.searched.Goals as goal
 

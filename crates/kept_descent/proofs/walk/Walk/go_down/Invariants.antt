@@ -1,7 +1,0 @@
-use Rattle.rule_core.specs.Table.{table_counts}
-use Rattle.kept_descent.specs.Walks.{IsDown}
-use Rattle.kept_descent.proofs.walk.Walk.go_down.Given as goal
-
-abbrev pub invariant-down : goal.invariant-down
-invariant-down g l =
-    IsDown g.R.Entries l.initial.self.ground.plan (table_counts l.initial.tally.table) l.self l.tally

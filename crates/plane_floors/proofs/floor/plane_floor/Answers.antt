@@ -1,7 +1,0 @@
-use Rattle.plane_floors.proofs.PlaneLemmas.{floors-searched}
-use Rattle.plane_floors.proofs.floor.plane_floor.Goals as goal
-
-pub returns : goal.returns
-returns g c =
-    floors-searched c.args.league.now c.args.bound c.in_ok-system.system _ _ c.requires.counted.instance
-    c.requires.some c.in_ok-system.ensures c.in_ok-found.ensures c.floor_with.ensures

@@ -1,6 +1,0 @@
-use Rattle.std.proofs.Common.{◌<◌}
-use Rattle.std.specs.List.{All}
-use Rattle.plane_floors.proofs.start.all_teams.Given as goal
-
-abbrev pub invariant-loop-team : goal.invariant-loop-team
-invariant-loop-team l = All (λ i. i < l.n) l.teams.items
