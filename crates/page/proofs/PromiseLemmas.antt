@@ -7,8 +7,8 @@ use Rattle.answers.specs.declared.status.Status.{Status}
 use Rattle.answers.specs.declared.status.Status.TheVariants.{Yes, No, Words, File, Refuted, Spent, ReadFault}
 use Rattle.answers.specs.declared.status.Status.TheVariants.{WriteFault, Memory, Better}
 use Rattle.command_validate.specs.Validate.{IsJudgement}
-use Rattle.page_io.specs.Files.{file_named}
-use Rattle.page_io.specs.declared.files.Files.{Files}
+use Rattle.page.specs.Files.{file_named}
+use Rattle.page.specs.declared.files.Files.{Files}
 use Rattle.robin_run.specs.Run.{Writes}
 use Rattle.page.specs.Promises.{Promises, Shows}
 use Rattle.page.specs.Ran.{run_over}

@@ -6,8 +6,8 @@ use Rattle.robin_io.specs.Outside.{output_between, store_between}
 use Rattle.command_line.specs.Words.{reading}
 use Rattle.answers.specs.declared.status.Status.{Status}
 use Rattle.answers.specs.declared.status.Status.TheVariants.{Memory}
-use Rattle.page_io.specs.Files.{file_named}
-use Rattle.page_io.specs.declared.files.Files.{Files}
+use Rattle.page.specs.Files.{file_named}
+use Rattle.page.specs.declared.files.Files.{Files}
 use Rattle.robin_run.specs.Run.{NothingFails, Run, step_room}
 use Rattle.page.specs.Ran.{IsPromised, Ran, files_told, run_over, text_told}
 use Rattle.page.specs.Shown.{HasRun, lines}

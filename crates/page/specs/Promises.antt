@@ -14,8 +14,8 @@ use Rattle.answers.specs.Stages.{Outcome}
 use Rattle.answers.specs.Status.{status_code}
 use Rattle.decoding.specs.Excluded.{NoneAccepted}
 use Rattle.command_validate.specs.Validate.{IsJudgement}
-use Rattle.page_io.specs.Files.{file_named}
-use Rattle.page_io.specs.declared.files.Files.{Files}
+use Rattle.page.specs.Files.{file_named}
+use Rattle.page.specs.declared.files.Files.{Files}
 
 -- an answer of this kind is shown: its whole text stands at the front of the room, and the status is its own
 pub record Shows (kind : Outcome) (status written : ℕ) (room : List ℕ) : Type 0 where

@@ -7,8 +7,8 @@ use Rattle.robin_io.specs.declared.sink.Sink as sink
 use Rattle.command_line.specs.Words.{reading}
 use Rattle.answers.specs.declared.status.Status.{Status}
 use Rattle.answers.specs.declared.status.Status.TheVariants.{Memory}
-use Rattle.page_io.specs.Files.{file_named}
-use Rattle.page_io.specs.declared.files.Files.{Files}
+use Rattle.page.specs.Files.{file_named}
+use Rattle.page.specs.declared.files.Files.{Files}
 use Rattle.robin_run.specs.Commands.{KeepsPromises}
 use Rattle.robin_run.specs.Ends.{EndsByWords}
 use Rattle.robin_run.specs.Run.{Answered, NothingFails, Run, step_room}

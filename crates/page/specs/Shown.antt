@@ -3,7 +3,7 @@ use Rattle.std.specs.Prelude.{◌≡◌, ◌<◌, ◌⊎◌, ◌==◌, ℕ, List
 use Rattle.std.specs.List.{slice_split}
 use Rattle.answers.specs.Status.{status_code}
 use Rattle.answers.specs.declared.status.Status.{Status}
-use Rattle.page_io.specs.declared.files.Files.{Files}
+use Rattle.page.specs.declared.files.Files.{Files}
 use Rattle.page.specs.Ran.{Ran}
 
 -- the text stands at the front of the room, and nothing of it is lacking

@@ -1,16 +1,23 @@
 //! What a page calls: a run of the words of a command line over files that lie in memory.
 //!
 //! A text crosses as an address and a length, and the answer goes to the front of a room that the page lends. No raw
-//! pointer stands here, so no proof is written by hand for one.
+//! pointer stands here, so no proof is written by hand for one. The store never fails, and a text fails only where memory
+//! runs out, so what `run` promises where nothing fails holds.
 #![tactic(auto)]
+
+mod files;
+mod text;
+mod words;
 
 ghost use Rattle.std.specs.Prelude.{◌≡◌, ◌<◌, ◌≤◌, ◌⊎◌, length, map, string_bytes, take};
 ghost use Rattle.command_line.specs.Words.{reading};
 ghost use Rattle.page.specs.Promises.{Promises};
 ghost use Rattle.page.specs.Shown.{HasRun, IsAnswered, IsCut, IsShown, lines};
 
+use crate::files::{Files, PageShelf};
+use crate::text::PageSink;
+use crate::words::words_of;
 use answers::{Status, code};
-use page_io::{Files, PageShelf, PageSink, words_of};
 use robin_run::run;
 use robin_watch::Unwatched;
 use std::alloc::{AllocError, Global};

@@ -1,6 +1,6 @@
 use Rattle.std.proofs.Common.{map, string_bytes}
-use Rattle.page_io.specs.ShelfFields.{files_of, taken_of}
-use Rattle.page_io.specs.SinkFields.{faults_of, text_of}
+use Rattle.page.specs.ShelfFields.{files_of, taken_of}
+use Rattle.page.specs.SinkFields.{faults_of, text_of}
 use Rattle.page.proofs.RunLemmas.{ran}
 use Rattle.page.proofs.run_words.Goals as goal
 

@@ -1,6 +1,6 @@
 -- What a text shows of its fields.
 use Rattle.std.specs.Prelude.{ℕ, List}
-use Rattle.page_io.specs.declared.text.PageSink.{PageSink}
+use Rattle.page.specs.declared.text.PageSink.{PageSink}
 
 -- the bytes so far
 abbrev pub text_of : PageSink → List ℕ

@@ -3,8 +3,8 @@ ghost use Rattle.std.specs.Prelude.{◌≡◌, ◌<◌, ◌≤◌, ◌+◌, ◌-
 ghost use Rattle.std.specs.Prelude.{IfOk, IsOk, OnOk, OnErr};
 ghost use Rattle.std.specs.Io.KnownBytes.{Keeps, Consumes, IsAtEnd};
 ghost use Rattle.robin_io.specs.Counts.{raised, HasCause};
-ghost use Rattle.page_io.specs.Files.{file_named};
-ghost use Rattle.page_io.specs.ShelfFields.{files_of, left_of, taken_of};
+ghost use Rattle.page.specs.Files.{file_named};
+ghost use Rattle.page.specs.ShelfFields.{files_of, left_of, taken_of};
 
 use robin_io::{Failed, Shelf};
 

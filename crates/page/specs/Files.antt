@@ -1,6 +1,6 @@
 -- The files that a page lends, by their names.
 use Rattle.std.specs.Prelude.{ℕ, List, [], if◌then◌else◌, bytes_eq, codes}
-use Rattle.page_io.specs.declared.files.Files.{Files}
+use Rattle.page.specs.declared.files.Files.{Files}
 
 -- the bytes of the file of a name
 abbrev pub file_named : Files → List ℕ → List ℕ

@@ -2,7 +2,7 @@
 ghost use Rattle.std.specs.Prelude.{◌≡◌, ◌++◌, ℕ, List, [], Some, length, take, IfOk, OnOk, OnErr};
 ghost use Rattle.std.specs.Io.KnownBytes.{Appends};
 ghost use Rattle.robin_io.specs.Counts.{HasOneCause};
-ghost use Rattle.page_io.specs.SinkFields.{faults_of, text_of};
+ghost use Rattle.page.specs.SinkFields.{faults_of, text_of};
 
 use robin_io::{Failed, Sink};
 use std::alloc::Global;

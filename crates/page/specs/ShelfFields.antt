@@ -1,7 +1,7 @@
 -- What the store shows of its fields.
 use Rattle.std.specs.Prelude.{ℕ, List}
-use Rattle.page_io.specs.declared.files.Files.{Files}
-use Rattle.page_io.specs.declared.files.PageShelf.{PageShelf}
+use Rattle.page.specs.declared.files.Files.{Files}
+use Rattle.page.specs.declared.files.PageShelf.{PageShelf}
 
 -- the files that it was made of
 abbrev pub files_of : PageShelf → Files

@@ -1,6 +1,6 @@
 use Rattle.std.proofs.Common.{◌≡◌, ◌++◌, ◌==◌, drop, map, string_bytes}
 use Rattle.std.specs.List.{slice_split}
-use Rattle.page_io.proofs.words.words_of.Given as goal
+use Rattle.page.proofs.words.words_of.Given as goal
 
 -- the words so far, and then the lines that are left, are all lines
 abbrev pub invariant-loop-line : goal.invariant-loop-line
