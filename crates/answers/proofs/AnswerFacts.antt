@@ -1,7 +1,7 @@
 -- Worked statuses, texts that refuse, and stages, so that a wrong definition does not check.
 use Rattle.std.proofs.Common.{◌≡◌, ℕ, ◌<◌, ◌≤◌, List, [], ◌∷◌, Some, None, codes, arith, inl, inr, refl}
 use Rattle.std.specs.Fmt.{digits}
-use Rattle.robinx_read.specs.declared.instance.TheConstants.{INSTANCE_LIMIT, SOLUTION_LIMIT}
+use Rattle.robinx.specs.declared.instance.TheConstants.{INSTANCE_LIMIT, SOLUTION_LIMIT}
 use Rattle.robinx_tags.specs.declared.fault.FormKind.TheVariants.{BadTag, BadAttribute, RepeatedAttribute}
 use Rattle.robinx_tags.specs.declared.fault.FormKind.TheVariants.{TooManyAttributes, Truncated, BadNesting}
 use Rattle.robinx_tags.specs.declared.fault.FormKind.TheVariants.{MissingElement, RepeatedElement, MissingAttribute}

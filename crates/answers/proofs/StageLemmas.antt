@@ -3,7 +3,7 @@ use Rattle.std.proofs.Common.{◌≡◌, ℕ, ◌+◌, ◌<◌, ◌≤◌, List,
 use Rattle.std.specs.Prelude.{IfSome}
 use Rattle.robin_io.specs.Outside.{Store}
 use Rattle.robin_io.specs.Rests.{IsRest}
-use Rattle.robinx_form.specs.Walk.{Fault}
+use Rattle.robinx.specs.Walk.{Fault}
 use Rattle.answers.specs.Reply.{Answer}
 use Rattle.answers.specs.SeenReply.{Answers, answer_of}
 use Rattle.answers.specs.Stages.{IsFile, IsUnread, NoneFails, Outcome, says, takes}

@@ -1,6 +1,6 @@
 -- What a contract sees of the stages of a run.
 use Rattle.std.specs.Prelude.{◌≡◌, ℕ, List, Result, Ok, Err}
-use Rattle.robinx_form.specs.Walk.{Fault}
+use Rattle.robinx.specs.Walk.{Fault}
 use Rattle.answers.specs.Reply.{Answer, malformed}
 use Rattle.answers.specs.Stages.{Outcome}
 use Rattle.answers.specs.declared.reply.Reply.{Reply}

@@ -4,7 +4,7 @@ use Rattle.std.specs.Io.KnownBytes.{Appends}
 use Rattle.std.specs.List.{All}
 use Rattle.robin_io.specs.Outside.{Output, Store}
 use Rattle.robin_io.specs.Written.{AppendsPrefix}
-use Rattle.robinx_form.specs.Walk.{Fault}
+use Rattle.robinx.specs.Walk.{Fault}
 use Rattle.answers.specs.Reply.{Answer, read_fault, too_long, malformed}
 use Rattle.answers.specs.declared.status.Status.{Status}
 use Rattle.answers.specs.declared.status.Status.TheVariants.{WriteFault}

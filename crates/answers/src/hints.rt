@@ -2,7 +2,7 @@
 
 use crate::Advice;
 use refutation::LogKind;
-use robinx_read::FormKind;
+use robinx::FormKind;
 use std::alloc::AllocError;
 
 /// What a file is to be.

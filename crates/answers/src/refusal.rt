@@ -9,7 +9,7 @@ use crate::reply::{
 };
 use crate::{Advice, hints};
 use refutation::LogKind;
-use robinx_read::FormKind;
+use robinx::FormKind;
 use std::alloc::{AllocError, Global};
 
 /// An answer that refuses, and what a person is told beside it. What is told is printable, and nothing else is said of

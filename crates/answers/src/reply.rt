@@ -7,7 +7,7 @@ ghost use Rattle.answers.specs.declared.reply.NoValue.TheVariants.{Memory};
 use crate::refusal::Refusal;
 use crate::status::Status;
 use refutation::LogKind;
-use robinx_read::FormKind;
+use robinx::FormKind;
 use std::alloc::{AllocError, Global};
 
 /// An answer: how the run ends, and the text that it writes.

@@ -5,8 +5,8 @@ ghost use Rattle.robin_io.specs.Counts.{raised};
 ghost use Rattle.robin_io.specs.Outside.{output_between, store_between};
 ghost use Rattle.robinx_tags.specs.Pieces.{pieces};
 ghost use Rattle.league.specs.Instance.{IsGame};
-ghost use Rattle.robinx_form.specs.InstanceFile.{instance_of};
-ghost use Rattle.robinx_form.specs.SolutionFile.{solution_of};
+ghost use Rattle.robinx.specs.InstanceFile.{instance_of};
+ghost use Rattle.robinx.specs.SolutionFile.{solution_of};
 ghost use Rattle.answers.specs.SeenReply.{answer_of, IsMalformed, MatchStage};
 ghost use Rattle.answers.specs.Stages.{IsFile, IsUnread, IsWritten};
 
@@ -15,7 +15,7 @@ use crate::reply::{NoValue, Reply};
 use crate::status::Status;
 use league::{League, Schedule};
 use robin_io::{Shelf, Sink, TakeFault, put_all, read_all};
-use robinx_read::{INSTANCE_LIMIT, ReadFault, SOLUTION_LIMIT, read_instance, read_solution};
+use robinx::{INSTANCE_LIMIT, ReadFault, SOLUTION_LIMIT, read_instance, read_solution};
 use std::alloc::Global;
 
 /// Reads a file whole, or answers why it can't be read.

@@ -5,9 +5,9 @@ use Rattle.robin_io.specs.Outside.{Store}
 use Rattle.rows.specs.Rows.{Row}
 use Rattle.league.specs.Instance.{Instance}
 use Rattle.robinx_tags.specs.Pieces.{pieces}
-use Rattle.robinx_form.specs.InstanceFile.{instance_of}
-use Rattle.robinx_form.specs.Walk as forms
-use Rattle.robinx_read.specs.declared.instance.TheConstants.{INSTANCE_LIMIT}
+use Rattle.robinx.specs.InstanceFile.{instance_of}
+use Rattle.robinx.specs.Walk as forms
+use Rattle.robinx.specs.declared.instance.TheConstants.{INSTANCE_LIMIT}
 use Rattle.answers.specs.Reply.{Answer, too_large}
 use Rattle.answers.specs.Stages.{IsFile, NoneFails, Outcome, says, takes}
 use Rattle.answers.specs.declared.status.Status.{Status}

@@ -9,8 +9,8 @@ use Rattle.robinx_tags.specs.Tags.{attributes_at}
 use Rattle.league.specs.Instance.{Instance}
 use Rattle.league.specs.declared.class.Class.TheVariants.{Ca1}
 use Rattle.league.specs.declared.class.Side.TheVariants.{H}
-use Rattle.robinx_form.specs.InstanceFile.{instance_of}
-use Rattle.robinx_form.specs.Walk.{walk}
+use Rattle.robinx.specs.InstanceFile.{instance_of}
+use Rattle.robinx.specs.Walk.{walk}
 use Rattle.answers.specs.Reply.{Answer, log_malformed, read_fault, too_large, too_long}
 use Rattle.answers.specs.declared.status.Status.TheVariants.{Yes, No, File, ReadFault}
 use Rattle.encoding.specs.Encoding.{encoding_size, rows_of}

@@ -7,9 +7,9 @@ use Rattle.robin_io.specs.Rests.{IsRest}
 use Rattle.league.specs.Instance.{Instance, IsInstance}
 use Rattle.rows.specs.Rows.{Row}
 use Rattle.robinx_tags.specs.Pieces.{pieces}
-use Rattle.robinx_form.specs.InstanceFile.{instance_of}
-use Rattle.robinx_form.specs.Walk as forms
-use Rattle.robinx_read.specs.declared.instance.TheConstants.{INSTANCE_LIMIT}
+use Rattle.robinx.specs.InstanceFile.{instance_of}
+use Rattle.robinx.specs.Walk as forms
+use Rattle.robinx.specs.declared.instance.TheConstants.{INSTANCE_LIMIT}
 use Rattle.answers.specs.Reply.{Answer, log_malformed, too_large}
 use Rattle.answers.specs.SeenReply.{IsMalformed, MatchStage}
 use Rattle.answers.specs.Stages.{Outcome, IsFile, reads, says, takes}

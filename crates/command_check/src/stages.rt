@@ -27,7 +27,7 @@ use league::League;
 use refutation::{LogFault, LogFeed};
 use refutation_check::Checker;
 use robin_io::Shelf;
-use robinx_read::INSTANCE_LIMIT;
+use robinx::INSTANCE_LIMIT;
 use std::alloc::Global;
 
 /// The rows of a league, or why there are none.

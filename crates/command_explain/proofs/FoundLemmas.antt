@@ -11,9 +11,9 @@ use Rattle.league.specs.Instance.{Instance, IsTeamCount}
 use Rattle.league.specs.declared.game.Game.{Game}
 use Rattle.circle_method.specs.Circle.{double_games}
 use Rattle.robinx_tags.specs.Pieces.{pieces}
-use Rattle.robinx_form.specs.SolutionFile.{solution_of}
-use Rattle.robinx_form.specs.Texts.{solution_text}
-use Rattle.robinx_write.proofs.SolutionLemmas.{solution-reads_back}
+use Rattle.robinx.specs.SolutionFile.{solution_of}
+use Rattle.robinx.specs.Texts.{solution_text}
+use Rattle.robinx.proofs.SolutionLemmas.{solution-reads_back}
 use Rattle.encoding.specs.Variables.{var_count}
 use Rattle.refutation.specs.Steps.{NamesRows, Step}
 use Rattle.refutation.specs.Logs.{log_of, most_bytes}

@@ -3,8 +3,8 @@ ghost use Rattle.std.specs.Prelude.{◌≡◌, ◌≤◌, ◌+◌, ℕ, List, If
 ghost use Rattle.std.specs.Ordering.{nat_cmp};
 ghost use Rattle.robin_io.specs.Outside.{store_between};
 ghost use Rattle.league.specs.Sets.{IsAscending};
-ghost use Rattle.robinx_form.specs.InstanceFile.{instance_of};
-ghost use Rattle.robinx_form.specs.Texts as forms;
+ghost use Rattle.robinx.specs.InstanceFile.{instance_of};
+ghost use Rattle.robinx.specs.Texts as forms;
 ghost use Rattle.robinx_tags.specs.Pieces.{pieces};
 ghost use Rattle.answers.specs.SeenRefusal.{refused_with};
 ghost use Rattle.answers.specs.SeenReply.{answer_of, Answers};
@@ -15,8 +15,7 @@ use answers::{Advice, NoValue, Refusal, Reply, Status, file, league_in};
 use explain::{PartFault, part};
 use league::League;
 use robin_io::Shelf;
-use robinx_read::INSTANCE_LIMIT;
-use robinx_write::instance_text;
+use robinx::{INSTANCE_LIMIT, instance_text};
 use std::alloc::{AllocError, Global};
 
 /// A league, as an instance file.

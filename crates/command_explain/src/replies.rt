@@ -5,7 +5,7 @@ ghost use Rattle.league.specs.Accepted.{IsAccepted};
 ghost use Rattle.league.specs.Counts.{counts_of};
 ghost use Rattle.circle_method.specs.Circle.{double_games};
 ghost use Rattle.encoding.specs.Variables.{var_count};
-ghost use Rattle.robinx_form.specs.Texts as solutions;
+ghost use Rattle.robinx.specs.Texts as solutions;
 ghost use Rattle.answers.specs.SeenReply.{answer_of};
 ghost use Rattle.answers.specs.declared.status.Status.TheVariants as statuses;
 ghost use Rattle.refutation.specs.Logs.{log_of};
@@ -25,7 +25,7 @@ use explain::{Cases, Explained, Members};
 use league::{League, Schedule};
 use refutation::{Log, log_text};
 use robin_watch::Watch;
-use robinx_write::solution_text;
+use robinx::solution_text;
 use std::alloc::{AllocError, Global};
 
 /// A schedule that is accepted, with its objective.

@@ -14,7 +14,7 @@ use explain::{Explained, explain};
 use league::League;
 use robin_io::Shelf;
 use robin_watch::Listener;
-use robinx_read::INSTANCE_LIMIT;
+use robinx::INSTANCE_LIMIT;
 use std::alloc::{AllocError, Global};
 
 /// A reply, with what a person is told beside it: a reply goes with advice as a refusal does.

@@ -10,7 +10,7 @@ ghost use Rattle.command_explain.specs.Texts.{case_text, cases_text, number_part
 use explain::{Case, Cases, Members};
 use refutation::{Log, log_text};
 use robin_io::put_decimal;
-use robinx_write::solution_text;
+use robinx::solution_text;
 use std::alloc::{AllocError, Global};
 
 /// Adds the line of a conflict's members.

@@ -8,9 +8,9 @@ use Rattle.league.specs.Counts.{Counts, counts_of}
 use Rattle.league.specs.Instance.{Instance, IsTeamCount}
 use Rattle.league.specs.declared.game.Game.{Game}
 use Rattle.robinx_tags.specs.Pieces.{pieces}
-use Rattle.robinx_form.specs.SolutionFile.{solution_of}
-use Rattle.robinx_form.specs.Texts.{solution_text}
-use Rattle.robinx_write.proofs.SolutionLemmas.{solution-reads_back}
+use Rattle.robinx.specs.SolutionFile.{solution_of}
+use Rattle.robinx.specs.Texts.{solution_text}
+use Rattle.robinx.proofs.SolutionLemmas.{solution-reads_back}
 use Rattle.solve.proofs.AnswerLemmas.{refutes-few}
 use Rattle.solve.proofs.FewLemmas.{round_robin-few}
 use Rattle.answers.specs.Reply.{Answer}

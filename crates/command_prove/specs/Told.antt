@@ -1,7 +1,7 @@
 -- What is written of what is shown of an accepted schedule.
 use Rattle.std.specs.Prelude.{◌≡◌, ◌<◌, ◌≤◌, ◌⊎◌, ℕ, List, [], Some, Ok}
 use Rattle.std.specs.List.{All}
-use Rattle.robinx_form.specs.Texts.{solution_text}
+use Rattle.robinx.specs.Texts.{solution_text}
 use Rattle.answers.specs.Reply.{Answer}
 use Rattle.answers.specs.declared.status.Status.TheVariants as statuses
 use Rattle.league.specs.Instance.{Instance}

@@ -21,7 +21,7 @@ use league::League;
 use refutation::LogFault;
 use refutation_check::StepsFault;
 use robin_io::Shelf;
-use robinx_read::INSTANCE_LIMIT;
+use robinx::INSTANCE_LIMIT;
 use std::alloc::{AllocError, Global};
 
 /// How many terms the bound rows of a league have, if these aren't too many.

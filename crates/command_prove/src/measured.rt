@@ -9,7 +9,7 @@ use crate::bound_stages::few_terms;
 use answers::{NoValue, file, league_in};
 use league::League;
 use robin_io::Shelf;
-use robinx_read::INSTANCE_LIMIT;
+use robinx::INSTANCE_LIMIT;
 use std::alloc::Global;
 
 /// A league whose bound rows haven't too many terms.

@@ -1,7 +1,7 @@
 //! The answers of `prove`.
 ghost use Rattle.std.specs.Prelude.{◌≡◌, [], Some, Ok, IfOk};
 ghost use Rattle.std.specs.List.{All};
-ghost use Rattle.robinx_form.specs.Texts as solutions;
+ghost use Rattle.robinx.specs.Texts as solutions;
 ghost use Rattle.answers.specs.SeenReply.{answer_of};
 ghost use Rattle.answers.specs.declared.status.Status.TheVariants as statuses;
 ghost use Rattle.refutation.specs.Steps.{NamesRows};
@@ -21,7 +21,7 @@ use floors::{Floor, best_floor};
 use league::{League, Schedule};
 use refutation::{Log, log_text};
 use robin_watch::Watch;
-use robinx_write::solution_text;
+use robinx::solution_text;
 use std::alloc::{AllocError, Global};
 
 /// A certificate of the least objective.

@@ -7,7 +7,7 @@ ghost use Rattle.league.specs.Counts.{counts_of};
 ghost use Rattle.league.specs.Instance.{IsGame};
 ghost use Rattle.league.specs.declared.game.Game.{Game};
 ghost use Rattle.robinx_tags.specs.Pieces.{pieces};
-ghost use Rattle.robinx_form.specs.SolutionFile.{solution_of};
+ghost use Rattle.robinx.specs.SolutionFile.{solution_of};
 ghost use Rattle.answers.specs.SeenReply.{answer_of, Answers};
 ghost use Rattle.answers.specs.Stages.{says};
 ghost use Rattle.bound_rows.specs.Bounded.{IsCounted};
@@ -25,7 +25,7 @@ use deviation::assess;
 use league::{League, Schedule};
 use robin_io::Shelf;
 use robin_watch::Watch;
-use robinx_read::{INSTANCE_LIMIT, SOLUTION_LIMIT};
+use robinx::{INSTANCE_LIMIT, SOLUTION_LIMIT};
 use std::alloc::{AllocError, Global};
 
 /// What is to be shown of a schedule, and how far the search for it goes.

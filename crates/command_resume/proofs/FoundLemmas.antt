@@ -12,9 +12,9 @@ use Rattle.league.specs.Instance.{Instance, IsInstance, IsTeamCount}
 use Rattle.league.specs.declared.game.Game.{Game}
 use Rattle.clause_search.proofs.TidyLemmas.{IsTidy-wider}
 use Rattle.robinx_tags.specs.Pieces.{pieces}
-use Rattle.robinx_form.specs.SolutionFile.{solution_of}
-use Rattle.robinx_form.specs.Texts.{solution_text}
-use Rattle.robinx_write.proofs.SolutionLemmas.{solution-reads_back}
+use Rattle.robinx.specs.SolutionFile.{solution_of}
+use Rattle.robinx.specs.Texts.{solution_text}
+use Rattle.robinx.proofs.SolutionLemmas.{solution-reads_back}
 use Rattle.solve.proofs.FewLemmas.{round_robin-few}
 use Rattle.rows.specs.Rows.{Row}
 use Rattle.encoding.specs.Variables.{h_count, has_breaks, hb_count, var_count, x_count}

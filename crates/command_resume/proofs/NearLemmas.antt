@@ -10,10 +10,10 @@ use Rattle.league.specs.Counts.{counts_of}
 use Rattle.league.specs.Instance.{Instance, IsGame, IsTeamCount}
 use Rattle.league.specs.declared.game.Game.{Game}
 use Rattle.robinx_tags.specs.Pieces.{pieces}
-use Rattle.robinx_form.specs.SolutionFile.{solution_of}
-use Rattle.robinx_form.specs.Texts.{solution_text}
-use Rattle.robinx_write.proofs.CommentLemmas.{comment_line, is_plain_comment, is_plain_comment-decimal}
-use Rattle.robinx_write.proofs.SolutionLemmas.{solution-reads_back_commented}
+use Rattle.robinx.specs.SolutionFile.{solution_of}
+use Rattle.robinx.specs.Texts.{solution_text}
+use Rattle.robinx.proofs.CommentLemmas.{comment_line, is_plain_comment, is_plain_comment-decimal}
+use Rattle.robinx.proofs.SolutionLemmas.{solution-reads_back_commented}
 use Rattle.solve.proofs.FewLemmas.{round_robin-few}
 use Rattle.answers.specs.Reply.{Answer}
 use Rattle.answers.specs.SeenReply.{answer_of}

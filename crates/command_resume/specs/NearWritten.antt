@@ -1,7 +1,7 @@
 -- What is written of what is found near an old plan.
 use Rattle.std.specs.Prelude.{◌≡◌, ℕ, ◌++◌, Bool, List, Some, Ok}
 use Rattle.league.specs.declared.game.Game.{Game}
-use Rattle.robinx_form.specs.Texts.{solution_text}
+use Rattle.robinx.specs.Texts.{solution_text}
 use Rattle.answers.specs.Reply.{Answer}
 use Rattle.answers.specs.declared.status.Status.TheVariants as status
 use Rattle.refutation.specs.Logs.{log_of}

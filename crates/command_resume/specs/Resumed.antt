@@ -8,8 +8,8 @@ use Rattle.league.specs.Instance.{Instance}
 use Rattle.league.specs.Order.{IsInOrder}
 use Rattle.league.specs.declared.game.Game.{Game}
 use Rattle.robinx_tags.specs.Pieces.{pieces}
-use Rattle.robinx_form.specs.SolutionFile.{solution_of}
-use Rattle.robinx_form.specs.Texts.{solution_text}
+use Rattle.robinx.specs.SolutionFile.{solution_of}
+use Rattle.robinx.specs.Texts.{solution_text}
 use Rattle.answers.specs.Reply.{Answer}
 use Rattle.answers.specs.Stages.{◌>>=◌, Outcome}
 use Rattle.answers.specs.declared.status.Status.TheVariants.{Yes, Refuted, Spent}

@@ -5,7 +5,7 @@ ghost use Rattle.robin_io.specs.Outside.{store_between};
 ghost use Rattle.league.specs.Counts as counts;
 ghost use Rattle.league.specs.Instance.{IsGame};
 ghost use Rattle.refutation.specs.Logs.{log_of};
-ghost use Rattle.robinx_read.specs.declared.instance.TheConstants.{INSTANCE_LIMIT, SOLUTION_LIMIT};
+ghost use Rattle.robinx.specs.declared.instance.TheConstants.{INSTANCE_LIMIT, SOLUTION_LIMIT};
 ghost use Rattle.answers.specs.SeenReply.{Answers};
 ghost use Rattle.answers.specs.Stages.{reads};
 ghost use Rattle.command_check.specs.Check.{LogPassesRoom, most_log_bytes, says_log};

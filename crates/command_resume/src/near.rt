@@ -4,7 +4,7 @@ ghost use Rattle.std.specs.List.{All};
 ghost use Rattle.robin_io.specs.Outside.{store_between};
 ghost use Rattle.league.specs.Counts as counts;
 ghost use Rattle.league.specs.Instance.{IsGame};
-ghost use Rattle.robinx_read.specs.declared.instance.TheConstants.{INSTANCE_LIMIT, SOLUTION_LIMIT};
+ghost use Rattle.robinx.specs.declared.instance.TheConstants.{INSTANCE_LIMIT, SOLUTION_LIMIT};
 ghost use Rattle.answers.specs.SeenReply.{answer_of, Answers};
 ghost use Rattle.break_counts.specs.BreakCounts.{are_few};
 ghost use Rattle.resume.specs.Kept as kept;

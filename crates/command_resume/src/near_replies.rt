@@ -1,6 +1,6 @@
 //! The answers of `resume --near`.
 ghost use Rattle.std.specs.Prelude.{◌≡◌, ◌++◌, ℕ, IfOk, Option, Some, string_bytes};
-ghost use Rattle.robinx_form.specs.Texts as solutions;
+ghost use Rattle.robinx.specs.Texts as solutions;
 ghost use Rattle.answers.specs.SeenReply.{answer_of};
 ghost use Rattle.answers.specs.declared.status.Status.TheVariants.{Yes};
 ghost use Rattle.resume.specs.Answers.{IsResumed};
@@ -12,7 +12,7 @@ use crate::replies::log_reply;
 use answers::{Reply, Status};
 use league::{League, Schedule};
 use resume::{Neared, Resumed, changed_games, open_games};
-use robinx_write::solution_text;
+use robinx::solution_text;
 use std::alloc::{AllocError, Global};
 
 /// The comment that says how many games are changed, of how many that are still to come, and whether the season is

@@ -3,7 +3,7 @@ ghost use Rattle.std.specs.Prelude.{◌≡◌, ℕ, false, IfOk, Ok, Option, Som
 ghost use Rattle.std.specs.List.{All};
 ghost use Rattle.league.specs.Accepted.{IsAccepted};
 ghost use Rattle.league.specs.Counts.{counts_of};
-ghost use Rattle.robinx_form.specs.Texts as solutions;
+ghost use Rattle.robinx.specs.Texts as solutions;
 ghost use Rattle.answers.specs.SeenReply.{answer_of};
 ghost use Rattle.answers.specs.declared.status.Status.TheVariants.{Refuted, Yes};
 ghost use Rattle.clause_search.specs.News.{IsTidy};
@@ -19,7 +19,7 @@ use clause_search::tidy_text;
 use league::{League, Schedule};
 use refutation::{Log, log_text};
 use resume::Resumed;
-use robinx_write::solution_text;
+use robinx::solution_text;
 use std::alloc::{AllocError, Global};
 
 /// A schedule that is accepted, with its objective.

@@ -20,7 +20,7 @@ use encoding::MOST_TERMS;
 use league::{League, Schedule, slot_count};
 use resume::resume_size;
 use robin_io::Shelf;
-use robinx_read::{INSTANCE_LIMIT, SOLUTION_LIMIT};
+use robinx::{INSTANCE_LIMIT, SOLUTION_LIMIT};
 use std::alloc::{AllocError, Global};
 
 /// A league, the games of a list, how many of its slots are played, and how many bytes both files have.

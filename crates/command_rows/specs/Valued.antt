@@ -6,10 +6,10 @@ use Rattle.league.specs.Accepted.{IsAccepted, objective}
 use Rattle.league.specs.Counts.{counts_of}
 use Rattle.league.specs.Instance.{Instance}
 use Rattle.robinx_tags.specs.Pieces.{pieces}
-use Rattle.robinx_form.specs.InstanceFile.{instance_of}
-use Rattle.robinx_form.specs.SolutionFile.{solution_of}
-use Rattle.robinx_form.specs.Texts.{solution_text}
-use Rattle.robinx_read.specs.declared.instance.TheConstants.{INSTANCE_LIMIT}
+use Rattle.robinx.specs.InstanceFile.{instance_of}
+use Rattle.robinx.specs.SolutionFile.{solution_of}
+use Rattle.robinx.specs.Texts.{solution_text}
+use Rattle.robinx.specs.declared.instance.TheConstants.{INSTANCE_LIMIT}
 use Rattle.answers.specs.Reply.{Answer}
 use Rattle.answers.specs.Stages.{◌>>=◌, Outcome, reads, says}
 use Rattle.answers.specs.declared.status.Status.TheVariants.{Yes, No, File}

@@ -14,7 +14,7 @@ use command_prove::few_terms;
 use encoding::{EncodeFault, encode};
 use league::League;
 use robin_io::Shelf;
-use robinx_read::INSTANCE_LIMIT;
+use robinx::INSTANCE_LIMIT;
 use std::alloc::Global;
 
 /// The rows of a league.

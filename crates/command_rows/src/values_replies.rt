@@ -15,7 +15,7 @@ use decoding::decode;
 use deviation::assess;
 use encoding::Encoding;
 use opb_forms::assignment_of;
-use robinx_write::solution_text;
+use robinx::solution_text;
 use rows::{Assignment, Lit};
 use std::alloc::{AllocError, Global};
 

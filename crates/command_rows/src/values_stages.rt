@@ -17,7 +17,7 @@ use encoding::{EncodeFault, Encoding, encode};
 use league::League;
 use opb_forms::{ValuesFault, read_values};
 use robin_io::Shelf;
-use robinx_read::INSTANCE_LIMIT;
+use robinx::INSTANCE_LIMIT;
 use rows::Lit;
 use std::alloc::Global;
 

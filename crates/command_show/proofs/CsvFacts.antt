@@ -3,7 +3,7 @@ use Rattle.std.proofs.Common.{◌≡◌, ℕ, [], ◌∷◌, refl}
 use Rattle.std.specs.Prelude.{codes}
 use Rattle.std.specs.Fmt.{digits}
 use Rattle.league.specs.declared.game.Game.{Game}
-use Rattle.robinx_names.specs.Names.{Names}
+use Rattle.robinx.specs.Names.{Names}
 use Rattle.command_show.specs.Csv.{defused, field_text, numbered, game_line, csv_text}
 
 abbrev game : ℕ → ℕ → ℕ → Game

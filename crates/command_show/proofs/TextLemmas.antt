@@ -8,7 +8,7 @@ use Rattle.league.specs.Instance.{Instance}
 use Rattle.league.specs.declared.game.Game.{Game}
 use Rattle.league.specs.declared.wrongs.Wrongs.{Wrongs}
 use Rattle.league.proofs.CountLemmas.{counts_of-permutation}
-use Rattle.robinx_names.specs.Names.{Names}
+use Rattle.robinx.specs.Names.{Names}
 use Rattle.deviation.specs.Assess.{IsStructureOf}
 use Rattle.deviation.specs.declared.assessment.Assessment.{Assessment}
 use Rattle.command_validate.specs.Assessed.{IsAssessmentOf}

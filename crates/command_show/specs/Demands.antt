@@ -8,10 +8,10 @@ use Rattle.robin_io.specs.Outside.{Store}
 use Rattle.robinx_tags.specs.Pieces.{pieces}
 use Rattle.league.specs.Instance.{Instance}
 use Rattle.league.specs.declared.class.Constraint.{Constraint}
-use Rattle.robinx_form.specs.InstanceFile.{instance_of}
-use Rattle.robinx_read.specs.declared.instance.TheConstants.{INSTANCE_LIMIT}
-use Rattle.robinx_names.specs.Names.{Names}
-use Rattle.robinx_names.specs.NamesFile.{names_of}
+use Rattle.robinx.specs.InstanceFile.{instance_of}
+use Rattle.robinx.specs.declared.instance.TheConstants.{INSTANCE_LIMIT}
+use Rattle.robinx.specs.Names.{Names}
+use Rattle.robinx.specs.NamesFile.{names_of}
 use Rattle.season_misses.specs.Demands.{constraint_text}
 use Rattle.answers.specs.Reply.{Answer}
 use Rattle.answers.specs.Stages.{◌>>=◌, Outcome, reads, says}

@@ -3,7 +3,7 @@ use Rattle.std.specs.Prelude.{ℕ, ◌+◌, ◌-◌, ◌/◌, max, Bool, ◌&&�
 use Rattle.std.specs.Prelude.{bytes_eq, codes, decimal}
 use Rattle.std.specs.List.{flat_map, fold, range_with_len}
 use Rattle.league.specs.Counts.{Counts, slots_of, teams_of}
-use Rattle.robinx_names.specs.Names.{Names, team_name, slot_name}
+use Rattle.robinx.specs.Names.{Names, team_name, slot_name}
 use Rattle.league.specs.Structure.{first_half}
 use Rattle.command_show.specs.declared.columns.Columns.{Columns}
 use Rattle.command_show.specs.declared.blocks.Block.{Block}

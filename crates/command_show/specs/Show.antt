@@ -11,11 +11,11 @@ use Rattle.league.specs.Order.{IsInOrder}
 use Rattle.league.specs.Structure.{cells_wrong, pairs_wrong, phases_wrong}
 use Rattle.league.specs.declared.game.Game.{Game}
 use Rattle.league.specs.declared.wrongs.Wrongs.{Wrongs}
-use Rattle.robinx_form.specs.InstanceFile.{instance_of}
-use Rattle.robinx_form.specs.SolutionFile.{solution_of}
-use Rattle.robinx_read.specs.declared.instance.TheConstants.{INSTANCE_LIMIT, SOLUTION_LIMIT}
-use Rattle.robinx_names.specs.Names.{Names, label}
-use Rattle.robinx_names.specs.NamesFile.{names_of}
+use Rattle.robinx.specs.InstanceFile.{instance_of}
+use Rattle.robinx.specs.SolutionFile.{solution_of}
+use Rattle.robinx.specs.declared.instance.TheConstants.{INSTANCE_LIMIT, SOLUTION_LIMIT}
+use Rattle.robinx.specs.Names.{Names, label}
+use Rattle.robinx.specs.NamesFile.{names_of}
 use Rattle.command_show.specs.Csv.{csv_text}
 use Rattle.command_show.specs.Grid.{grid_text}
 use Rattle.season_misses.specs.Lacks.{lacks_text}

@@ -4,7 +4,7 @@ ghost use Rattle.std.specs.List.{flat_map, range_with_len};
 ghost use Rattle.std.specs.Option.{option_copied};
 ghost use Rattle.robin_io.specs.Outside.{store_between};
 ghost use Rattle.league.specs.Instance.{IsInstance, class_fits};
-ghost use Rattle.robinx_names.specs.Names.{IsNames};
+ghost use Rattle.robinx.specs.Names.{IsNames};
 ghost use Rattle.answers.specs.SeenRefusal.{refused_with};
 ghost use Rattle.answers.specs.SeenReply.{Answers};
 ghost use Rattle.command_show.specs.Demands as specs;
@@ -16,8 +16,7 @@ use crate::texts::labels_of;
 use answers::{Advice, NoValue, Refusal, Reply, Status, file, league_in};
 use league::{Constraint, League};
 use robin_io::Shelf;
-use robinx_names::Names;
-use robinx_read::INSTANCE_LIMIT;
+use robinx::{INSTANCE_LIMIT, Names};
 use season_misses::{Label, constraint_words};
 use std::alloc::{AllocError, Global};
 

@@ -2,11 +2,11 @@
 ghost use Rattle.std.specs.Prelude.{◌≡◌, ◌<◌, ◌++◌, IfOk, OnOk, length, codes, decimal};
 ghost use Rattle.std.specs.List.{All, flat_map};
 ghost use Rattle.league.specs.Instance.{IsGame};
-ghost use Rattle.robinx_names.specs.Names.{IsNames, team_name};
+ghost use Rattle.robinx.specs.Names.{IsNames, team_name};
 ghost use Rattle.command_show.specs.Csv as csv;
 
 use league::{Game, TeamId};
-use robinx_names::Names;
+use robinx::Names;
 use std::alloc::{AllocError, Global};
 
 /// The line of the fields' names.

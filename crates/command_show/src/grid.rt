@@ -2,7 +2,7 @@
 ghost use Rattle.std.specs.Prelude.{◌≡◌, ◌<◌, ◌≤◌, ◌+◌, ◌++◌, codes, min, IfOk, OnOk, length};
 ghost use Rattle.std.specs.List.{All, flat_map};
 ghost use Rattle.league.specs.Counts.{slot_count};
-ghost use Rattle.robinx_names.specs.Names.{IsNames};
+ghost use Rattle.robinx.specs.Names.{IsNames};
 ghost use Rattle.command_show.specs.Grid as grid;
 ghost use Rattle.command_show.specs.SeenSeason.{season_of};
 

@@ -1,7 +1,7 @@
 //! Teams in front of the cells of a grid, by their numbers and names.
 ghost use Rattle.std.specs.Prelude.{◌≡◌, ◌<◌, ◌≤◌, ◌^◌, ◌++◌, IfOk, OnOk, length, string_bytes};
 ghost use Rattle.std.specs.Str.{chars};
-ghost use Rattle.robinx_names.specs.Names.{IsNames, team_name};
+ghost use Rattle.robinx.specs.Names.{IsNames, team_name};
 ghost use Rattle.command_show.specs.Widths as widths;
 ghost use Rattle.command_show.specs.Grid as grid;
 ghost use Rattle.command_show.specs.SeenSeason.{season_of};

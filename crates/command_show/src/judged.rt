@@ -2,7 +2,7 @@
 ghost use Rattle.std.specs.Prelude.{◌≡◌, ◌≤◌, length, if◌then◌else◌, IfOk};
 ghost use Rattle.std.specs.List.{All};
 ghost use Rattle.league.specs.Instance.{IsGame};
-ghost use Rattle.robinx_names.specs.Names.{IsNames};
+ghost use Rattle.robinx.specs.Names.{IsNames};
 ghost use Rattle.answers.specs.SeenReply.{answer_of};
 ghost use Rattle.command_show.specs.Show as show;
 ghost use Rattle.command_show.specs.Show.{IsShown};
@@ -12,7 +12,7 @@ use crate::texts::form_text;
 use answers::{Reply, Status};
 use deviation::assess;
 use league::{League, Schedule};
-use robinx_names::Names;
+use robinx::Names;
 use std::alloc::{AllocError, Global};
 
 /// How a run ends that judged a season.

@@ -1,5 +1,5 @@
 //! A season with the names of its league.
-use robinx_names::Names;
+use robinx::Names;
 use rule_core::Cells;
 
 /// The games of a season, counted, and the names of its league, which is phased or not.

@@ -2,9 +2,9 @@
 ghost use Rattle.std.specs.Prelude.{◌≡◌, ◌+◌, ◌≤◌, ℕ, List, Ok, IfOk, codes, length};
 ghost use Rattle.robin_io.specs.Outside.{store_between};
 ghost use Rattle.robinx_tags.specs.Pieces.{pieces};
-ghost use Rattle.robinx_form.specs.SolutionFile.{solution_of};
-ghost use Rattle.robinx_names.specs.Names.{IsNames};
-ghost use Rattle.robinx_names.specs.NamesFile.{names_of};
+ghost use Rattle.robinx.specs.SolutionFile.{solution_of};
+ghost use Rattle.robinx.specs.Names.{IsNames};
+ghost use Rattle.robinx.specs.NamesFile.{names_of};
 ghost use Rattle.answers.specs.SeenReply.{Answers, IsMalformed, MatchStage};
 ghost use Rattle.answers.specs.Stages.{says};
 ghost use Rattle.command_show.specs.Show as specs;
@@ -15,8 +15,7 @@ use crate::judged::shown_reply;
 use answers::{NoValue, Reply, file, league_in, malformed, schedule_in};
 use league::League;
 use robin_io::Shelf;
-use robinx_names::{Names, read_names};
-use robinx_read::{INSTANCE_LIMIT, ReadFault, SOLUTION_LIMIT};
+use robinx::{INSTANCE_LIMIT, Names, ReadFault, SOLUTION_LIMIT, read_names};
 use std::alloc::Global;
 
 /// The names that an instance file gives its league.

@@ -3,7 +3,7 @@ ghost use Rattle.std.specs.Prelude.{◌≡◌, ◌≤◌, ◌++◌, length, stri
 ghost use Rattle.std.specs.List.{All};
 ghost use Rattle.league.specs.Instance.{IsGame};
 ghost use Rattle.league.specs.Order.{IsInOrder};
-ghost use Rattle.robinx_names.specs.Names.{IsNames};
+ghost use Rattle.robinx.specs.Names.{IsNames};
 ghost use Rattle.command_validate.specs.Assessed.{IsAssessmentOf};
 ghost use Rattle.season_misses.specs.SeenTold.{IsTold};
 ghost use Rattle.command_show.specs.Show as show;
@@ -16,7 +16,7 @@ use command_validate::{structure_line, verdict};
 use deviation::{Assessment, counted};
 use league::{League, Schedule, TeamId};
 use reasons::TeamGames;
-use robinx_names::Names;
+use robinx::Names;
 use season_misses::{Label, Told, lacks, misses};
 use std::alloc::{AllocError, Global};
 

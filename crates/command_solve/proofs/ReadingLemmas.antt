@@ -6,11 +6,11 @@ use Rattle.std.proofs.lemmas.Bool.{and_from}
 use Rattle.league.specs.Instance.{IsGame}
 use Rattle.league.specs.declared.game.Game.{Game}
 use Rattle.robinx_tags.specs.Pieces.{pieces}
-use Rattle.robinx_form.specs.SolutionFile.{solution_of}
-use Rattle.robinx_form.specs.Texts.{solution_text}
-use Rattle.robinx_write.proofs.CommentLemmas.{comment_line, is_plain_comment}
-use Rattle.robinx_write.proofs.CommentLemmas.{is_plain_comment-append, is_plain_comment-decimal}
-use Rattle.robinx_write.proofs.SolutionLemmas.{solution-reads_back_commented}
+use Rattle.robinx.specs.SolutionFile.{solution_of}
+use Rattle.robinx.specs.Texts.{solution_text}
+use Rattle.robinx.proofs.CommentLemmas.{comment_line, is_plain_comment}
+use Rattle.robinx.proofs.CommentLemmas.{is_plain_comment-append, is_plain_comment-decimal}
+use Rattle.robinx.proofs.SolutionLemmas.{solution-reads_back_commented}
 use Rattle.moves.specs.declared.swap.Swap.{Swap}
 use Rattle.moves.specs.declared.swap.Swap.TheVariants.{HomeSwap, RoundSwap, TeamSwap, PartRoundSwap, PartTeamSwap}
 use Rattle.descent.specs.Descended.{Descended}

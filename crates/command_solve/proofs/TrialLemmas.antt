@@ -8,7 +8,7 @@ use Rattle.league.specs.Counts.{counts_of}
 use Rattle.league.specs.Instance.{Instance, IsTeamCount}
 use Rattle.league.specs.declared.game.Game.{Game}
 use Rattle.circle_method.specs.Circle.{double_games}
-use Rattle.robinx_form.specs.Texts.{solution_text}
+use Rattle.robinx.specs.Texts.{solution_text}
 use Rattle.answers.specs.Reply.{Answer}
 use Rattle.answers.specs.SeenReply.{Answers, answer_of}
 use Rattle.answers.specs.declared.reply.NoValue.{NoValue}

@@ -4,7 +4,7 @@ use Rattle.std.specs.Ordering.{is_lt}
 use Rattle.circle_method.specs.Circle.{double_games}
 use Rattle.league.specs.Order.{game_cmp}
 use Rattle.league.specs.declared.game.Game.{Game}
-use Rattle.robinx_form.specs.Texts.{solution_text}
+use Rattle.robinx.specs.Texts.{solution_text}
 use Rattle.answers.specs.Reply.{Answer}
 use Rattle.answers.specs.declared.status.Status.TheVariants.{Yes}
 

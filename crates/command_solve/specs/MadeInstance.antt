@@ -5,8 +5,8 @@ use Rattle.league.specs.Counts.{counts_of}
 use Rattle.circle_method.specs.Circle.{double_games}
 use Rattle.instance_gen.specs.Draws.{seeded}
 use Rattle.instance_gen.specs.Made.{made_league}
-use Rattle.robinx_form.specs.InstanceFile.{instance_of}
-use Rattle.robinx_form.specs.Texts.{instance_text}
+use Rattle.robinx.specs.InstanceFile.{instance_of}
+use Rattle.robinx.specs.Texts.{instance_text}
 use Rattle.robinx_tags.specs.Pieces.{pieces}
 use Rattle.answers.specs.Reply.{Answer}
 use Rattle.answers.specs.declared.status.Status.TheVariants.{Yes}

@@ -6,7 +6,7 @@ ghost use Rattle.league.specs.Counts.{counts_of};
 ghost use Rattle.league.specs.Instance.{IsGame};
 ghost use Rattle.league.specs.Structure.{IsRoundRobin};
 ghost use Rattle.robinx_tags.specs.Pieces.{pieces};
-ghost use Rattle.robinx_form.specs.SolutionFile.{solution_of};
+ghost use Rattle.robinx.specs.SolutionFile.{solution_of};
 ghost use Rattle.answers.specs.SeenReply.{Answers};
 ghost use Rattle.answers.specs.Stages.{says};
 ghost use Rattle.command_check.specs.Check.{encodes};
@@ -19,7 +19,7 @@ use encoding::EncodeFault;
 use league::{League, Schedule, structure};
 use robin_io::Shelf;
 use robin_watch::{Budgets, Listener};
-use robinx_read::{INSTANCE_LIMIT, SOLUTION_LIMIT};
+use robinx::{INSTANCE_LIMIT, SOLUTION_LIMIT};
 use solve::solve_from;
 use std::alloc::{AllocError, Global};
 

@@ -6,7 +6,7 @@ ghost use Rattle.command_solve.specs.MadeInstance.{IsMade};
 
 use answers::{Reply, Status};
 use instance_gen::make;
-use robinx_write::instance_text;
+use robinx::instance_text;
 use std::alloc::{AllocError, Global};
 
 /// Makes the league of n teams, n even and from 2 to 40, and a seed, and its text, which reads back as it.

@@ -6,7 +6,7 @@ ghost use Rattle.league.specs.Accepted.{IsAccepted};
 ghost use Rattle.league.specs.Counts.{counts_of};
 ghost use Rattle.league.specs.Instance.{IsGame, IsInstance, IsTeamCount};
 ghost use Rattle.circle_method.specs.Circle.{double_games};
-ghost use Rattle.robinx_form.specs.Texts as solutions;
+ghost use Rattle.robinx.specs.Texts as solutions;
 ghost use Rattle.answers.specs.SeenReply.{answer_of, Answers};
 ghost use Rattle.answers.specs.declared.status.Status.TheVariants.{Yes};
 ghost use Rattle.command_check.specs.Check.{encodes};

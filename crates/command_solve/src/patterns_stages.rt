@@ -10,7 +10,7 @@ use answers::{NoValue, Reply, file, league_in, rows_refused};
 use encoding::{EncodeFault, encode};
 use league::League;
 use robin_io::Shelf;
-use robinx_read::INSTANCE_LIMIT;
+use robinx::INSTANCE_LIMIT;
 use std::alloc::{AllocError, Global};
 
 /// Finds patterns of a league, or a log, and answers it.

@@ -4,14 +4,14 @@ ghost use Rattle.std.specs.List.{All};
 ghost use Rattle.league.specs.Accepted as costs;
 ghost use Rattle.league.specs.Counts.{counts_of};
 ghost use Rattle.league.specs.Instance.{IsGame};
-ghost use Rattle.robinx_form.specs.Texts as solutions;
+ghost use Rattle.robinx.specs.Texts as solutions;
 ghost use Rattle.command_solve.specs.Solve.{descent_text};
 
 use crate::comments::add_descent;
 use descent::Descent;
 use deviation::assess;
 use league::{League, Schedule};
-use robinx_write::solution_text;
+use robinx::solution_text;
 use std::alloc::{AllocError, Global};
 
 /// The objective with which a descent began: that of the games which it was given.

@@ -8,7 +8,7 @@ ghost use Rattle.command_solve.specs.Circle.{circle_season, in_order};
 use answers::{Reply, Status};
 use circle_method::double;
 use league::Schedule;
-use robinx_write::solution_text;
+use robinx::solution_text;
 use std::alloc::{AllocError, Global};
 
 /// The double round robin of the circle method, its games in order.

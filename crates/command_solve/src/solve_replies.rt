@@ -4,7 +4,7 @@ ghost use Rattle.std.specs.List.{All};
 ghost use Rattle.league.specs.Accepted as costs;
 ghost use Rattle.league.specs.Counts.{counts_of};
 ghost use Rattle.league.specs.Instance.{IsGame, IsInstance};
-ghost use Rattle.robinx_form.specs.Texts as solutions;
+ghost use Rattle.robinx.specs.Texts as solutions;
 ghost use Rattle.answers.specs.SeenReply.{answer_of};
 ghost use Rattle.answers.specs.declared.status.Status.TheVariants.{Yes};
 ghost use Rattle.refutation.specs.Logs.{log_of};

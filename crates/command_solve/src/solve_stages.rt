@@ -11,7 +11,7 @@ use encoding::EncodeFault;
 use league::League;
 use robin_io::Shelf;
 use robin_watch::{Budgets, Listener};
-use robinx_read::INSTANCE_LIMIT;
+use robinx::INSTANCE_LIMIT;
 use solve::solve;
 use std::alloc::{AllocError, Global};
 

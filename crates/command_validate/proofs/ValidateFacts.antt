@@ -9,10 +9,10 @@ use Rattle.league.specs.Accepted.{IsAccepted}
 use Rattle.league.specs.Counts.{counts_of}
 use Rattle.league.specs.Instance.{Instance}
 use Rattle.league.specs.declared.game.Game.{Game}
-use Rattle.robinx_form.specs.InstanceFile.{instance_of}
-use Rattle.robinx_form.specs.SolutionFile.{solution_of}
-use Rattle.robinx_form.specs.Walk.{Fault, walk}
-use Rattle.robinx_read.specs.declared.instance.TheConstants.{SOLUTION_LIMIT}
+use Rattle.robinx.specs.InstanceFile.{instance_of}
+use Rattle.robinx.specs.SolutionFile.{solution_of}
+use Rattle.robinx.specs.Walk.{Fault, walk}
+use Rattle.robinx.specs.declared.instance.TheConstants.{SOLUTION_LIMIT}
 use Rattle.answers.specs.Reply.{Answer, malformed}
 use Rattle.answers.specs.Stages.{Outcome, says, takes}
 use Rattle.answers.specs.declared.status.Status.{Status}

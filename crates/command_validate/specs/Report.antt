@@ -11,7 +11,7 @@ use Rattle.league.specs.declared.class.Constraint.{Constraint}
 use Rattle.league.specs.declared.game.Game.{Game}
 use Rattle.league.specs.declared.wrongs.Wrongs.{Wrongs}
 use Rattle.league.specs.Names.{name_of, name_text}
-use Rattle.robinx_form.specs.Texts.{type_word}
+use Rattle.robinx.specs.Texts.{type_word}
 
 -- the game mode
 abbrev pub mode_word : Bool → List ℕ

@@ -4,7 +4,7 @@ ghost use Rattle.command_validate.specs.Report.{head_text, structure_text, verdi
 ghost use Rattle.command_validate.specs.Report.{entries_text, constraint_front, constraint_text};
 
 use league::{Constraint, League, Wrongs};
-use robinx_write::type_word;
+use robinx::type_word;
 use std::alloc::{AllocError, Global};
 
 /// The lines that say what was read.

@@ -2,7 +2,7 @@
 ghost use Rattle.std.specs.Prelude.{◌≡◌, ◌+◌, ◌≤◌, ℕ, List, codes, length};
 ghost use Rattle.robin_io.specs.Outside.{store_between};
 ghost use Rattle.robinx_tags.specs.Pieces.{pieces};
-ghost use Rattle.robinx_form.specs.SolutionFile.{solution_of};
+ghost use Rattle.robinx.specs.SolutionFile.{solution_of};
 ghost use Rattle.answers.specs.SeenReply.{Answers};
 ghost use Rattle.answers.specs.Stages.{says};
 ghost use Rattle.command_validate.specs.Validate.{IsJudgement, validated};
@@ -11,7 +11,7 @@ use crate::judging::judge;
 use answers::{NoValue, Reply, file, league_in, schedule_in};
 use league::League;
 use robin_io::Shelf;
-use robinx_read::{INSTANCE_LIMIT, SOLUTION_LIMIT};
+use robinx::{INSTANCE_LIMIT, SOLUTION_LIMIT};
 use std::alloc::{AllocError, Global};
 
 /// Judges what a solution file says by the league.

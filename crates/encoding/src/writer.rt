@@ -12,7 +12,9 @@ use crate::demands::add_class_rows;
 use crate::draft::Draft;
 use crate::room::rows_at_most;
 use crate::season::Season;
-use crate::season_rows::{add_cell_rows, add_half_rows, add_meeting_rows, add_slot_rows, add_team_rows};
+use crate::season_rows::{
+    add_cell_rows, add_half_rows, add_meeting_rows, add_slot_rows, add_team_rows,
+};
 use crate::variables::has_breaks;
 use crate::venue_rows::add_venue_rows;
 use league::{Class, Constraint, League};

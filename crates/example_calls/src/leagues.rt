@@ -1,7 +1,7 @@
 //! The leagues of files.
 use crate::{canonical, encoded};
 use league::League;
-use robinx_read::{INSTANCE_LIMIT, read_instance};
+use robinx::{INSTANCE_LIMIT, read_instance};
 use std::{fs, io};
 
 /// Shows something of the league of a file: moves of its season, or its rows.

@@ -15,9 +15,9 @@ use Rattle.example_facts.proofs.Runs.{ended_with}
 use Rattle.robin_run.specs.Run.{Writes}
 use Rattle.robinx_tags.specs.Pieces.{pieces, pieces_from}
 use Rattle.robinx_tags.specs.Tags.{attributes_at}
-use Rattle.robinx_form.specs.SolutionFile.{solution_of}
-use Rattle.robinx_form.specs.Texts.{solution_text}
-use Rattle.robinx_form.specs.Walk.{walk}
+use Rattle.robinx.specs.SolutionFile.{solution_of}
+use Rattle.robinx.specs.Texts.{solution_text}
+use Rattle.robinx.specs.Walk.{walk}
 use Rattle.league.specs.Accepted.{IsAccepted, objective}
 use Rattle.league.specs.Counts.{Counts, counts_of}
 use Rattle.league.specs.Instance.{Instance, IsInstance, class_fits, is_one_side}

@@ -30,11 +30,11 @@ use Rattle.encoding.specs.Encoding.{encoding_size}
 use Rattle.circle_method.specs.Circle.{double_games}
 use Rattle.robinx_tags.specs.Pieces.{pieces, pieces_from}
 use Rattle.robinx_tags.specs.Tags.{attributes_at}
-use Rattle.robinx_form.specs.InstanceFile.{instance_of}
-use Rattle.robinx_form.specs.SolutionFile.{solution_of}
-use Rattle.robinx_form.specs.Texts.{instance_text, solution_text}
-use Rattle.robinx_form.specs.Walk.{Fault, walk}
-use Rattle.robinx_read.specs.declared.instance.TheConstants.{INSTANCE_LIMIT}
+use Rattle.robinx.specs.InstanceFile.{instance_of}
+use Rattle.robinx.specs.SolutionFile.{solution_of}
+use Rattle.robinx.specs.Texts.{instance_text, solution_text}
+use Rattle.robinx.specs.Walk.{Fault, walk}
+use Rattle.robinx.specs.declared.instance.TheConstants.{INSTANCE_LIMIT}
 use Rattle.answers.specs.Reply.{Answer}
 use Rattle.answers.specs.Stages.{IsFile}
 use Rattle.answers.specs.declared.status.Status.{Status}

@@ -23,10 +23,10 @@ use Rattle.robinx_tags.specs.declared.fault.TagFault.TheVariants as tags
 use Rattle.robinx_tags.specs.declared.tag.Tag.{Tag}
 use Rattle.robinx_tags.specs.declared.tag.TagKind.{TagKind}
 use Rattle.robinx_tags.specs.declared.tag.TagKind.TheVariants.{End, Start, Text}
-use Rattle.robinx_form.specs.Walk.{Fault}
-use Rattle.robinx_read.specs.Answers.{Changes, Says, Walks}
-use Rattle.robinx_read.specs.declared.fault.ReadFault.{ReadFault}
-use Rattle.robinx_read.specs.declared.fault.ReadFault.TheVariants as faults
+use Rattle.robinx.specs.Walk.{Fault}
+use Rattle.robinx.specs.Answers.{Changes, Says, Walks}
+use Rattle.robinx.specs.declared.fault.ReadFault.{ReadFault}
+use Rattle.robinx.specs.declared.fault.ReadFault.TheVariants as faults
 use Rattle.rows.specs.Cardinality.{at_least}
 use Rattle.rows.specs.Literals.{no, yes}
 use Rattle.rows.specs.Rows.{Row}

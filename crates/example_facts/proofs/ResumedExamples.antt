@@ -13,10 +13,10 @@ use Rattle.league.specs.declared.game.Game.{Game}
 use Rattle.league.proofs.AcceptedLemmas.{MeetsHard-from_sum}
 use Rattle.robinx_tags.specs.Pieces.{pieces, pieces_from}
 use Rattle.robinx_tags.specs.Tags.{attributes_at}
-use Rattle.robinx_form.specs.SolutionFile.{solution_of}
-use Rattle.robinx_form.specs.Texts.{solution_text}
-use Rattle.robinx_form.specs.Walk.{walk}
-use Rattle.robinx_read.specs.declared.instance.TheConstants.{INSTANCE_LIMIT, SOLUTION_LIMIT}
+use Rattle.robinx.specs.SolutionFile.{solution_of}
+use Rattle.robinx.specs.Texts.{solution_text}
+use Rattle.robinx.specs.Walk.{walk}
+use Rattle.robinx.specs.declared.instance.TheConstants.{INSTANCE_LIMIT, SOLUTION_LIMIT}
 use Rattle.answers.specs.Reply.{Answer}
 use Rattle.answers.specs.Stages.{IsFile}
 use Rattle.answers.specs.declared.status.Status.{Status}

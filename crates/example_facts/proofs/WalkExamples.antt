@@ -35,9 +35,9 @@ use Rattle.walk.specs.Walked.{IsSeasonOf, league_score}
 use Rattle.walk.specs.declared.best.Best.{Best}
 use Rattle.robinx_tags.specs.Pieces.{pieces, pieces_from}
 use Rattle.robinx_tags.specs.Tags.{attributes_at}
-use Rattle.robinx_form.specs.InstanceFile.{instance_of}
-use Rattle.robinx_form.specs.Walk.{walk}
-use Rattle.robinx_read.specs.declared.instance.TheConstants.{INSTANCE_LIMIT}
+use Rattle.robinx.specs.InstanceFile.{instance_of}
+use Rattle.robinx.specs.Walk.{walk}
+use Rattle.robinx.specs.declared.instance.TheConstants.{INSTANCE_LIMIT}
 use Rattle.answers.specs.Reply.{Answer}
 use Rattle.answers.specs.Stages.{IsFile}
 use Rattle.answers.specs.declared.status.Status.TheVariants.{Yes, No}

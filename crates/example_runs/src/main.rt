@@ -31,7 +31,7 @@ mod line;
 mod plans;
 
 use league::{Game, Schedule, SlotId, TeamId};
-use robinx_write::solution_text;
+use robinx::solution_text;
 use rule_core::{Plain, Steps};
 use std::io;
 use std::mem::size_of;

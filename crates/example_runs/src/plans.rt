@@ -6,7 +6,7 @@ ghost use Rattle.league.specs.Instance.{IsGame};
 use league::{League, Schedule, slot_count};
 use resume::{Resumed, resume};
 use robin_watch::Unwatched;
-use robinx_read::{INSTANCE_LIMIT, SOLUTION_LIMIT, read_instance, read_solution};
+use robinx::{INSTANCE_LIMIT, SOLUTION_LIMIT, read_instance, read_solution};
 use std::{fs, io};
 
 /// The file of the season.

@@ -17,7 +17,9 @@ ghost use Rattle.encoding.specs.Limit.{KeepsLimit};
 use crate::kept::add_kept_rows;
 use crate::size::resume_size;
 use deviation::counted;
-use encoding::{EncodeFault, MOST_TERMS, all_meetings, h_count, has_breaks, hb_count, write_rows_with, x_count};
+use encoding::{
+    EncodeFault, MOST_TERMS, all_meetings, h_count, has_breaks, hb_count, write_rows_with, x_count,
+};
 use league::{Game, League, Schedule};
 use rows::RowStore;
 use rule_core::Cells;

@@ -7,7 +7,7 @@ use Rattle.league.specs.Instance.{Instance}
 use Rattle.league.specs.Order.{IsInOrder}
 use Rattle.league.specs.declared.game.Game.{Game}
 use Rattle.league.proofs.CountLemmas.{counts_of-permutation}
-use Rattle.robinx_form.specs.Texts.{solution_text}
+use Rattle.robinx.specs.Texts.{solution_text}
 use Rattle.robin_host.specs.Season.{IsSeasonText}
 
 pub season-text : (league : Instance) (games ordered : List Game) (cost : ℕ) (text : List ℕ)

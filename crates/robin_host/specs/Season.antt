@@ -5,7 +5,7 @@ use Rattle.league.specs.Counts.{counts_of}
 use Rattle.league.specs.Instance.{Instance}
 use Rattle.league.specs.Order.{IsInOrder}
 use Rattle.league.specs.declared.game.Game.{Game}
-use Rattle.robinx_form.specs.Texts.{solution_text}
+use Rattle.robinx.specs.Texts.{solution_text}
 
 -- a text is that of a season that some league accepts, in order, with an infeasibility of 0 and what it costs
 pub record IsSeasonText (text : List ℕ) : Type 0 where

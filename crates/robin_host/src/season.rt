@@ -8,7 +8,7 @@ ghost use Rattle.league.specs.Order.{IsInOrder};
 ghost use Rattle.robin_host.specs.Season.{IsSeasonText};
 
 use league::{Game, League, Schedule};
-use robinx_write::solution_text;
+use robinx::solution_text;
 use std::alloc::{AllocError, Global};
 
 /// The text of a season that a league accepts.

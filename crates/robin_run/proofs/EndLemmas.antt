@@ -9,10 +9,10 @@ use Rattle.rows.specs.Values.{assigned}
 use Rattle.league.specs.Instance.{Instance}
 use Rattle.league.specs.declared.game.Game.{Game}
 use Rattle.robinx_tags.specs.Pieces.{pieces}
-use Rattle.robinx_form.specs.InstanceFile.{instance_of}
-use Rattle.robinx_form.specs.SolutionFile.{solution_of}
-use Rattle.robinx_form.specs.Walk.{Fault}
-use Rattle.robinx_read.specs.declared.instance.TheConstants.{INSTANCE_LIMIT, SOLUTION_LIMIT}
+use Rattle.robinx.specs.InstanceFile.{instance_of}
+use Rattle.robinx.specs.SolutionFile.{solution_of}
+use Rattle.robinx.specs.Walk.{Fault}
+use Rattle.robinx.specs.declared.instance.TheConstants.{INSTANCE_LIMIT, SOLUTION_LIMIT}
 use Rattle.robin_watch.specs.declared.budgets.Budgets.{Budgets}
 use Rattle.command_line.specs.Words.{Command}
 use Rattle.command_line.specs.Words.Command.{Audit, Bound, Check, Circle, Demands, Explain, Make, Part, Patterns, Prove, Resume, ResumeNear}
@@ -34,8 +34,8 @@ use Rattle.refutation.specs.declared.verdict.Verdict.TheVariants.{Accepted, Reje
 use Rattle.bounds.specs.Certificates.{certificate_of}
 use Rattle.bounds.specs.declared.certificate.Certificate.{Certificate}
 use Rattle.command_validate.specs.Validate.{IsJudgement, validated}
-use Rattle.robinx_names.specs.Names.{Names}
-use Rattle.robinx_names.specs.NamesFile.{names_of}
+use Rattle.robinx.specs.Names.{Names}
+use Rattle.robinx.specs.NamesFile.{names_of}
 use Rattle.command_show.specs.Demands.{AreDemands, demanded, demands_answer, first_absent, numbers_asked}
 use Rattle.command_show.specs.Show as showing
 use Rattle.command_show.specs.Show.{form_text, labels_of}

@@ -2,14 +2,14 @@
 use Rattle.std.proofs.Common.{◌≡◌, ◌∷◌, [], ℕ, ◌+◌, ◌≤◌, List, length, codes, Ok, Option, Some}
 use Rattle.robin_io.specs.Outside.{Store}
 use Rattle.robinx_tags.specs.Pieces.{pieces}
-use Rattle.robinx_form.specs.InstanceFile.{instance_of}
-use Rattle.robinx_form.specs.SolutionFile.{solution_of}
-use Rattle.robinx_read.specs.declared.instance.TheConstants.{INSTANCE_LIMIT, SOLUTION_LIMIT}
+use Rattle.robinx.specs.InstanceFile.{instance_of}
+use Rattle.robinx.specs.SolutionFile.{solution_of}
+use Rattle.robinx.specs.declared.instance.TheConstants.{INSTANCE_LIMIT, SOLUTION_LIMIT}
 use Rattle.league.specs.Instance.{Instance}
 use Rattle.league.specs.declared.game.Game.{Game}
-use Rattle.robinx_names.specs.Names.{Names}
-use Rattle.robinx_names.specs.NamesFile.{names_of}
-use Rattle.robinx_names.proofs.WholeLemmas.{names_whole}
+use Rattle.robinx.specs.Names.{Names}
+use Rattle.robinx.specs.NamesFile.{names_of}
+use Rattle.robinx.proofs.WholeLemmas.{names_whole}
 use Rattle.command_line.specs.Words.Command.{Demands, Sheet, Show}
 use Rattle.answers.specs.Reply.{Answer}
 use Rattle.answers.specs.Stages.{NoneFails, Outcome, says, takes}

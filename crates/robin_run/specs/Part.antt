@@ -1,7 +1,7 @@
 -- What `part` promises: the league of some hard constraints of another.
 use Rattle.std.specs.Prelude.{◌≡◌, ℕ, ◌≤◌, List, [], ◌∷◌, length, Some}
 use Rattle.league.specs.Instance.{Instance}
-use Rattle.robinx_read.specs.declared.instance.TheConstants.{INSTANCE_LIMIT}
+use Rattle.robinx.specs.declared.instance.TheConstants.{INSTANCE_LIMIT}
 use Rattle.command_line.specs.Words.{Command}
 use Rattle.command_explain.specs.Parted.{IsPart}
 use Rattle.robin_run.specs.Said.{SaysLeague}

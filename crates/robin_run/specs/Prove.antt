@@ -13,7 +13,7 @@ use Rattle.command_line.specs.Words.{Command}
 use Rattle.answers.specs.declared.status.Status.TheVariants.{Better, Spent, Yes}
 use Rattle.refutation.specs.Steps.{Step}
 use Rattle.refutation.specs.declared.verdict.Verdict.TheVariants.{Accepted}
-use Rattle.robinx_form.specs.Texts.{solution_text}
+use Rattle.robinx.specs.Texts.{solution_text}
 use Rattle.bound_rows.specs.Faithful.{IsLowerBound}
 use Rattle.command_prove.specs.Bound.{bound_verdict}
 use Rattle.bounds.specs.Certificates.{certificate_of, certificate_text}

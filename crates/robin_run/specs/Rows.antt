@@ -2,7 +2,7 @@
 use Rattle.std.specs.Prelude.{◌≡◌, ℕ, ◌≤◌, List, [], ◌∷◌, length, Some}
 use Rattle.std.specs.Io.KnownBytes.{Appends}
 use Rattle.league.specs.Instance.{Instance}
-use Rattle.robinx_read.specs.declared.instance.TheConstants.{INSTANCE_LIMIT}
+use Rattle.robinx.specs.declared.instance.TheConstants.{INSTANCE_LIMIT}
 use Rattle.command_line.specs.Words.{Command}
 use Rattle.command_line.specs.declared.goal.Goal.{Goal}
 use Rattle.answers.specs.declared.status.Status.TheVariants.{Yes}

@@ -4,9 +4,9 @@ use Rattle.std.specs.Prelude.{◌≡◌, ℕ, ◌≤◌, List, [], ◌∷◌, le
 use Rattle.robinx_tags.specs.Pieces.{pieces}
 use Rattle.league.specs.Instance.{Instance}
 use Rattle.league.specs.declared.game.Game.{Game}
-use Rattle.robinx_names.specs.Names.{Names}
-use Rattle.robinx_names.specs.NamesFile.{names_of}
-use Rattle.robinx_read.specs.declared.instance.TheConstants.{INSTANCE_LIMIT}
+use Rattle.robinx.specs.Names.{Names}
+use Rattle.robinx.specs.NamesFile.{names_of}
+use Rattle.robinx.specs.declared.instance.TheConstants.{INSTANCE_LIMIT}
 use Rattle.command_line.specs.Words.{Command}
 use Rattle.answers.specs.Reply.{Answer}
 use Rattle.command_validate.specs.Validate.{IsWellFormedPair}

@@ -7,7 +7,7 @@ ghost use Rattle.command_line.specs.SeenWords.{command_of};
 ghost use Rattle.command_line.specs.Words.{members_of, reading, HasTeams, NeedsNoFile};
 ghost use Rattle.answers.specs.SeenReply.{answer_of, Answers};
 ghost use Rattle.answers.specs.Stages.{IsWritten};
-ghost use Rattle.robinx_read.specs.declared.instance.TheConstants.{INSTANCE_LIMIT};
+ghost use Rattle.robinx.specs.declared.instance.TheConstants.{INSTANCE_LIMIT};
 ghost use Rattle.command_explain.specs.Parted.{parted};
 ghost use Rattle.command_show.specs.Demands.{demanded};
 ghost use Rattle.command_rows.specs.Rowed.{rowed, rows_answer};

@@ -6,7 +6,7 @@ use crate::canonical::boards::show_games;
 use crate::encoded::lines::show_variable;
 use decoding::{decode, shadow};
 use encoding::Encoding;
-use robinx_read::{SOLUTION_LIMIT, read_solution};
+use robinx::{SOLUTION_LIMIT, read_solution};
 use rows::Assignment;
 use std::{fs, io};
 

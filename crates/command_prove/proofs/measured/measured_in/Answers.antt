@@ -2,8 +2,8 @@ use Rattle.std.proofs.Common.{List, ℕ, ◌<◌, ◌≡◌, codes, inr, rules, 
 use Rattle.robin_io.specs.Counts.{raised}
 use Rattle.robin_io.specs.Outside.{Store, store_between}
 use Rattle.robinx_tags.specs.Pieces.{pieces}
-use Rattle.robinx_form.specs.InstanceFile.{instance_of}
-use Rattle.robinx_read.specs.declared.instance.TheConstants.{INSTANCE_LIMIT}
+use Rattle.robinx.specs.InstanceFile.{instance_of}
+use Rattle.robinx.specs.declared.instance.TheConstants.{INSTANCE_LIMIT}
 use Rattle.answers.specs.Reply.{too_large}
 use Rattle.answers.specs.SeenReply.{IsMalformed}
 use Rattle.answers.specs.Stages.{IsFile, IsUnread}

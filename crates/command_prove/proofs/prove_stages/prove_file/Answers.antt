@@ -6,7 +6,7 @@ use Rattle.robin_io.proofs.StoreLemmas.{rest-between}
 use Rattle.robin_watch.specs.Limits.{IsKeptTo}
 use Rattle.league.specs.Instance.{Instance}
 use Rattle.league.specs.declared.game.Game.{Game}
-use Rattle.robinx_read.specs.declared.instance.TheConstants.{SOLUTION_LIMIT}
+use Rattle.robinx.specs.declared.instance.TheConstants.{SOLUTION_LIMIT}
 use Rattle.answers.specs.SeenReply.{Answers}
 use Rattle.answers.specs.Stages.{IsFile, IsUnread, Outcome}
 use Rattle.answers.proofs.StageLemmas.{Answers-wider, unread-end}

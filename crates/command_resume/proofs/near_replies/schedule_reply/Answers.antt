@@ -1,6 +1,6 @@
 use Rattle.std.proofs.Common.{◌≡◌, ℕ, ◌++◌, List, Some, ap, ◌∙◌}
 use Rattle.league.specs.declared.game.Game.{Game}
-use Rattle.robinx_form.specs.Texts.{solution_text}
+use Rattle.robinx.specs.Texts.{solution_text}
 use Rattle.resume.specs.Near.{changed, open_games}
 use Rattle.command_resume.specs.Near.{near_line}
 use Rattle.command_resume.proofs.near_replies.schedule_reply.Goals as goal

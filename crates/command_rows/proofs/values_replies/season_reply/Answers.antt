@@ -3,7 +3,7 @@ use Rattle.league.specs.Accepted.{IsAccepted, objective}
 use Rattle.league.specs.Counts.{counts_of}
 use Rattle.league.specs.Instance.{Instance}
 use Rattle.league.specs.declared.game.Game.{Game}
-use Rattle.robinx_form.specs.Texts.{solution_text}
+use Rattle.robinx.specs.Texts.{solution_text}
 use Rattle.rows.specs.Values.{assigned}
 use Rattle.encoding.specs.Shadow.{decoded}
 use Rattle.decoding.proofs.GameLemmas.{accepted_few, accepted_fit}

@@ -4,7 +4,7 @@ use Rattle.robin_io.specs.Counts.{raised}
 use Rattle.robin_io.specs.Outside.{Store, store_between}
 use Rattle.robin_io.specs.Rests.{IsRest}
 use Rattle.robin_io.proofs.StoreLemmas.{rest-between}
-use Rattle.robinx_read.specs.declared.instance.TheConstants.{INSTANCE_LIMIT}
+use Rattle.robinx.specs.declared.instance.TheConstants.{INSTANCE_LIMIT}
 use Rattle.answers.specs.Reply.{too_large}
 use Rattle.answers.specs.SeenReply.{Answers}
 use Rattle.answers.specs.Stages.{IsFile, IsUnread}

@@ -1,6 +1,6 @@
 use Rattle.std.proofs.Common.{List, Option, ℕ, ◌+◌, length, codes, rules, subst, sym}
 use Rattle.robin_io.specs.Outside.{Store, store_between}
-use Rattle.robinx_read.specs.declared.instance.TheConstants.{INSTANCE_LIMIT, SOLUTION_LIMIT}
+use Rattle.robinx.specs.declared.instance.TheConstants.{INSTANCE_LIMIT, SOLUTION_LIMIT}
 use Rattle.answers.specs.Stages.{IsFile, IsUnread}
 use Rattle.answers.proofs.StageLemmas.{Answers-wider}
 use Rattle.command_show.proofs.StageLemmas.{shown-last, shown-unread}

@@ -1,7 +1,7 @@
 use Rattle.std.proofs.Common.{◌≡◌, ℕ, map, ap, ◌∙◌, arith}
 use Rattle.league.specs.Counts.{teams_of}
-use Rattle.robinx_names.specs.Names.{label}
-use Rattle.robinx_names.proofs.LabelLemmas.{part_more}
+use Rattle.robinx.specs.Names.{label}
+use Rattle.robinx.proofs.LabelLemmas.{part_more}
 use Rattle.command_show.proofs.texts.labels_of.Goals as goal
 
 pub loop-team-preserved : goal.loop-team-preserved

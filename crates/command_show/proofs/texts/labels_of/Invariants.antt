@@ -1,6 +1,6 @@
 use Rattle.std.proofs.Common.{◌≡◌, map}
 use Rattle.league.specs.Counts.{teams_of}
-use Rattle.robinx_names.specs.Names.{label}
+use Rattle.robinx.specs.Names.{label}
 use Rattle.command_show.proofs.texts.labels_of.Given as goal
 
 -- the labels of the teams so far

@@ -1,6 +1,6 @@
 use Rattle.std.proofs.Common.{◌++◌, List, ℕ, subst, ap, sym, ◌∙◌}
 use Rattle.rule_core.specs.Table.{table_counts}
-use Rattle.robinx_names.specs.Names.{IsNames}
+use Rattle.robinx.specs.Names.{IsNames}
 use Rattle.command_show.specs.Show.{grid_of}
 use Rattle.command_show.proofs.TextLemmas.{grid-same}
 use Rattle.command_show.proofs.texts.told_text.Goals as goal

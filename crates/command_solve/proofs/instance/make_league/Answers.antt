@@ -3,7 +3,7 @@ use Rattle.league.specs.Accepted.{IsAccepted}
 use Rattle.league.specs.Counts.{counts_of}
 use Rattle.league.specs.Instance.{Instance}
 use Rattle.circle_method.specs.Circle.{double_games}
-use Rattle.robinx_form.specs.Texts.{instance_text}
+use Rattle.robinx.specs.Texts.{instance_text}
 use Rattle.answers.specs.Reply.{Answer}
 use Rattle.answers.specs.declared.status.Status.TheVariants.{Yes}
 use Rattle.command_solve.proofs.instance.make_league.Goals as goal

@@ -1,5 +1,5 @@
 use Rattle.std.proofs.Common.{ℕ, List, ◌++◌, Some, length, ap, ◌∙◌}
-use Rattle.robinx_form.specs.Texts as solutions
+use Rattle.robinx.specs.Texts as solutions
 use Rattle.command_solve.specs.Solve.{descent_text}
 use Rattle.command_solve.specs.Trial.{found_lines, league_lines}
 use Rattle.command_solve.proofs.made.schedule_reply.Goals as goal

@@ -1,6 +1,6 @@
 use Rattle.std.proofs.Common.{ℕ, List, sym, subst}
 use Rattle.robin_io.specs.Outside.{Store, store_between}
-use Rattle.robinx_read.specs.declared.instance.TheConstants.{INSTANCE_LIMIT}
+use Rattle.robinx.specs.declared.instance.TheConstants.{INSTANCE_LIMIT}
 use Rattle.answers.specs.Stages.{IsFile}
 use Rattle.answers.proofs.StageLemmas.{Answers-wider}
 use Rattle.command_solve.proofs.PatternsStages.{patterned-league}

@@ -1,4 +1,4 @@
-use Rattle.robinx_write.proofs.TextLemmas.{three_pieces}
+use Rattle.robinx.proofs.WrittenTexts.{three_pieces}
 use Rattle.command_validate.proofs.lines.push_constraint.Goals as goal
 
 pub returns : goal.returns

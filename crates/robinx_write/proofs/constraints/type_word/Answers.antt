@@ -1,8 +1,0 @@
-use Rattle.std.proofs.Common.{refl}
-use Rattle.robinx_write.proofs.constraints.type_word.Goals as goal
-
-pub returns-then-hard : goal.returns-then-hard
-returns-then-hard c = rw c.if-hard.true refl
-
-pub returns-else-hard : goal.returns-else-hard
-returns-else-hard c = rw c.if-hard.false refl
