@@ -31,7 +31,7 @@ use Rattle.resume.specs.Walks.{IsBetter, IsDown, IsFoundAt, IsGround, IsSeasonOn
 use Rattle.resume.specs.declared.ground.Ground.{Ground}
 use Rattle.resume.specs.declared.nearest.Nearest.{Nearest}
 use Rattle.resume.specs.declared.old_plan.OldPlan.{OldPlan}
-use Rattle.resume.specs.declared.walk.Walk.{Walk}
+use Rattle.resume.specs.declared.kept_walk.Walk.{Walk}
 use Rattle.resume.proofs.ChangedLemmas.{at_most-itself, at_most-nearer}
 
 -- ---- a ground

@@ -21,7 +21,7 @@ use Rattle.resume.specs.Nearing.{IsNearing}
 use Rattle.resume.specs.declared.ground.Ground.{Ground}
 use Rattle.resume.specs.declared.nearest.Nearest.{Nearest}
 use Rattle.resume.specs.declared.old_plan.OldPlan.{OldPlan}
-use Rattle.resume.specs.declared.walk.Walk.{Walk}
+use Rattle.resume.specs.declared.kept_walk.Walk.{Walk}
 
 -- how often some games stand among others, in all
 abbrev pub times_in : Counts → List Game → ℕ

@@ -20,6 +20,7 @@ mod freed;
 mod ground;
 mod judged;
 mod kept;
+mod kept_walk;
 mod merge;
 mod near;
 mod nearest;
@@ -33,7 +34,6 @@ mod season;
 mod size;
 mod system;
 mod unheard;
-mod walk;
 pub mod walk_laws;
 
 pub use bettered::resume_lowered;

@@ -10,8 +10,8 @@ ghost use Rattle.tally.specs.League.{AreRulesOf};
 ghost use Rattle.resume.specs.Nearing.{IsEnd, IsNearest};
 ghost use Rattle.resume.specs.Walks.{IsSeasonOn};
 
+use crate::kept_walk::Walk;
 use crate::old_plan::OldPlan;
-use crate::walk::Walk;
 use descent::season_of;
 use deviation::AnyRule;
 use league::Schedule;

@@ -3,7 +3,7 @@ use Rattle.std.specs.List.{AllWithin}
 use Rattle.rule_core.specs.Table.{table_counts}
 use Rattle.descent.specs.Walks.{KeepsGames}
 use Rattle.resume.specs.Walks.{IsBetter}
-use Rattle.resume.proofs.walk.Walk.find_between.Given as goal
+use Rattle.resume.proofs.kept_walk.Walk.find_between.Given as goal
 
 -- none of the moves so far betters the season, and only the edit at hand changes
 abbrev pub invariant-loop-place : goal.invariant-loop-place

@@ -1,9 +1,9 @@
 use Rattle.std.proofs.Common.{◌<◌, length, get_or, arith, subst, sym}
 use Rattle.moves.specs.Moves.{IsOfLeague}
 use Rattle.moves.specs.declared.swap.Swap.{Swap}
-use Rattle.resume.specs.declared.walk.Walk.{Walk}
+use Rattle.resume.specs.declared.kept_walk.Walk.{Walk}
 use Rattle.resume.proofs.WalkLemmas.{move-of_league}
-use Rattle.resume.proofs.walk.Walk.find_between.Goals as goal
+use Rattle.resume.proofs.kept_walk.Walk.find_between.Goals as goal
 
 pub is_better-requires-clause-league : goal.is_better-requires-clause-league
 is_better-requires-clause-league g c =

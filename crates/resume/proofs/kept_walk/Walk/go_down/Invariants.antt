@@ -1,6 +1,6 @@
 use Rattle.rule_core.specs.Table.{table_counts}
 use Rattle.resume.specs.Walks.{IsDown}
-use Rattle.resume.proofs.walk.Walk.go_down.Given as goal
+use Rattle.resume.proofs.kept_walk.Walk.go_down.Given as goal
 
 abbrev pub invariant-down : goal.invariant-down
 invariant-down g l =

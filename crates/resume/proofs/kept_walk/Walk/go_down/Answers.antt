@@ -6,7 +6,7 @@ use Rattle.descent.proofs.WalkLemmas.{found-nothing, found-some}
 use Rattle.resume.specs.declared.ground.Ground.{Ground}
 use Rattle.resume.specs.declared.old_plan.OldPlan.{OldPlan}
 use Rattle.resume.proofs.WalkLemmas.{IsDown-kept, IsDown-more, IsWalkOn-made, better-at, nearest-at, open-at}
-use Rattle.resume.proofs.walk.Walk.go_down.Goals as goal
+use Rattle.resume.proofs.kept_walk.Walk.go_down.Goals as goal
 
 pub find-requires : goal.find-requires
 find-requires g c = record {

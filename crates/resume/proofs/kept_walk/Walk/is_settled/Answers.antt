@@ -2,7 +2,7 @@ use Rattle.std.proofs.Common.{refl, inr}
 use Rattle.rule_core.specs.Table.{table_counts}
 use Rattle.descent.proofs.WalkLemmas.{found-nothing, found-some}
 use Rattle.resume.proofs.WalkLemmas.{open-better}
-use Rattle.resume.proofs.walk.Walk.is_settled.Goals as goal
+use Rattle.resume.proofs.kept_walk.Walk.is_settled.Goals as goal
 
 pub returns-in-Ok-None-clause-settled : goal.returns-in-Ok-None-clause-settled
 returns-in-Ok-None-clause-settled g c said =

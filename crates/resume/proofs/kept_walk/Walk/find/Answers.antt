@@ -2,9 +2,9 @@ use Rattle.std.proofs.Common.{◌<◌, ◌+◌, length, arith, ap, subst, sym, �
 use Rattle.rule_core.specs.Table.{table_counts}
 use Rattle.descent.proofs.WalkLemmas.{found-nothing, found-some}
 use Rattle.resume.specs.Walks.{IsWalkOn}
-use Rattle.resume.specs.declared.walk.Walk.{Walk}
+use Rattle.resume.specs.declared.kept_walk.Walk.{Walk}
 use Rattle.resume.proofs.WalkLemmas.{IsNearest-of_all, IsWalkOn-tried, found-better, found-full, least-nearest}
-use Rattle.resume.proofs.walk.Walk.find.Goals as goal
+use Rattle.resume.proofs.kept_walk.Walk.find.Goals as goal
 
 pub returns-then-is_least-clause-found : goal.returns-then-is_least-clause-found
 returns-then-is_least-clause-found g c =

@@ -1,9 +1,9 @@
 use Rattle.std.proofs.Common.{rules, ◌≡◌, ◌≤◌, length, ap, subst, sym, ◌∙◌}
 use Rattle.descent.proofs.WalkLemmas.{found-nothing, found-some}
 use Rattle.resume.specs.Walks.{IsWalkOn}
-use Rattle.resume.specs.declared.walk.Walk.{Walk}
+use Rattle.resume.specs.declared.kept_walk.Walk.{Walk}
 use Rattle.resume.proofs.WalkLemmas.{IsWalkOn-tried, found-round}
-use Rattle.resume.proofs.walk.Walk.find_place.Goals as goal
+use Rattle.resume.proofs.kept_walk.Walk.find_place.Goals as goal
 
 pub find_between-requires-in-None-clause-walk : goal.find_between-requires-in-None-clause-walk
 find_between-requires-in-None-clause-walk g c =

@@ -7,7 +7,7 @@ use Rattle.moves.specs.Moves.{moved}
 use Rattle.moves.specs.Round.{edited, round_counts}
 use Rattle.tally.specs.League.{AreRulesOf}
 use Rattle.tally.specs.declared.weighted.Weighted.{Weighted}
-use Rattle.resume.proofs.walk.Walk.make.Goals as goal
+use Rattle.resume.proofs.kept_walk.Walk.make.Goals as goal
 
 pub apply-requires-2-clause-there : goal.apply-requires-2-clause-there
 apply-requires-2-clause-there g c i j s =

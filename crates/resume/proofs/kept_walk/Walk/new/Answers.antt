@@ -1,7 +1,7 @@
 use Rattle.std.proofs.Common.{ℕ, Bool, subst, sym}
 use Rattle.league.specs.Counts.{counts_of}
 use Rattle.league.specs.Structure.{IsRoundRobin}
-use Rattle.resume.proofs.walk.Walk.new.Goals as goal
+use Rattle.resume.proofs.kept_walk.Walk.new.Goals as goal
 
 pub new-requires-clause-round_robin : goal.new-requires-clause-round_robin
 new-requires-clause-round_robin c =
