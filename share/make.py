@@ -4,7 +4,7 @@
     share/make.py           writes share/robin.1 (man), share/robin.bash and share/_robin (zsh)
     share/make.py --check   says whether they are what it would write: with status 1 where they aren't
 
-The table is crates/program_words/src/pages.rt: the text of --help, and a page for each command.
+The table is crates/answers/src/pages.rt: the text of --help, and a page for each command.
 """
 import os
 import re
@@ -16,7 +16,7 @@ FILES = {"INSTANCE", "SOLUTION", "LOG", "VALUES"}
 
 def pages():
     """The texts of the table by name, without Rust's quotes."""
-    with open(f"{TOP}/crates/program_words/src/pages.rt", encoding="utf-8") as it:
+    with open(f"{TOP}/crates/answers/src/pages.rt", encoding="utf-8") as it:
         text = it.read()
     found = re.findall(r'^pub const (\w+): &str = "((?:[^"\\]|\\.)*)";$', text, re.M | re.S)
     return {name: body.replace("\\\n", "", 1).replace("\\n", "\n").replace('\\"', '"').replace("\\\\", "\\") for name, body in found}

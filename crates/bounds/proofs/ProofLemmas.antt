@@ -21,7 +21,7 @@ use Rattle.refutation.specs.Steps.{NamesRows, Step, is_linear}
 use Rattle.clause_search.specs.Answers.{IsAnswer, IsSpentAt, Refutes}
 use Rattle.clause_search.specs.declared.found.Found.{Found}
 use Rattle.clause_search.proofs.LineLemmas.{step_named}
-use Rattle.pattern_search.proofs.LogLemmas.{refuted-clauses}
+use Rattle.league_search.proofs.LogLemmas.{refuted-clauses}
 use Rattle.clause_search.proofs.SearchLemmas.{news-clauses}
 use Rattle.descent.specs.Descended.{Descended}
 use Rattle.descent.specs.Settled.{IsSettled}

@@ -19,7 +19,7 @@ use Rattle.refutation.specs.Steps.{Step, is_linear}
 use Rattle.refutation.specs.Texts.{log_text, version_of}
 use Rattle.clause_search.specs.Answers.{Refutes}
 use Rattle.clause_search.proofs.LineLemmas.{step_named, step_short}
-use Rattle.pattern_search.proofs.LogLemmas.{refuted-clauses}
+use Rattle.league_search.proofs.LogLemmas.{refuted-clauses}
 use Rattle.break_counts.specs.BreakCounts.{are_few}
 use Rattle.break_counts.specs.Sums.{AllowsTooFew}
 use Rattle.break_counts.proofs.SearchLemmas.{few-unsatisfied}

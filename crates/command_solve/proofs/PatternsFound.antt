@@ -17,10 +17,10 @@ use Rattle.refutation.specs.Logs.{log_of}
 use Rattle.refutation.specs.Steps.{Step, is_linear}
 use Rattle.refutation.specs.Steps.Step.{Clause}
 use Rattle.refutation.specs.Texts.{log_text}
-use Rattle.pattern_search.specs.PatternLogs.{IsPatternSpent, RefutesPatterns}
-use Rattle.pattern_search.specs.PatternRows.{pattern_rows}
-use Rattle.pattern_search.specs.PatternSets.{IsPatternSet}
-use Rattle.pattern_search.proofs.NewsLemmas.{pattern_news-clauses}
+use Rattle.league_search.specs.PatternLogs.{IsPatternSpent, RefutesPatterns}
+use Rattle.league_search.specs.PatternRows.{pattern_rows}
+use Rattle.league_search.specs.PatternSets.{IsPatternSet}
+use Rattle.league_search.proofs.NewsLemmas.{pattern_news-clauses}
 use Rattle.venue_counts.specs.CountLogs.{IsRefuting}
 use Rattle.break_counts.specs.BreakCounts.{are_few}
 use Rattle.break_counts.specs.Sums.{AllowsTooFew}

@@ -20,7 +20,7 @@ use Rattle.answers.specs.Reply.{Answer}
 use Rattle.answers.specs.SeenReply.{answer_of}
 use Rattle.answers.specs.declared.reply.Reply.{Reply}
 use Rattle.answers.specs.declared.status.Status.TheVariants.{Yes, Refuted, Spent}
-use Rattle.pattern_search.specs.declared.found.PatternFound.{PatternFound}
+use Rattle.league_search.specs.declared.found.PatternFound.{PatternFound}
 use Rattle.solve.specs.Solutions.{CostsAtMost, HasSchedule, IsRefuted, IsSolution, IsSolutionBy, IsSpentOn}
 use Rattle.solve.specs.Solutions.{LeavesOpen, RefutesLeague}
 use Rattle.solve.specs.Solutions as solutions

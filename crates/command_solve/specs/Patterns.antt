@@ -18,8 +18,8 @@ use Rattle.refutation.specs.Texts.{log_text}
 use Rattle.break_counts.specs.BreakCounts.{are_few}
 use Rattle.break_counts.specs.Sums.{AllowsTooFew}
 use Rattle.command_check.specs.Check.{encodes}
-use Rattle.pattern_search.specs.PatternLogs.{IsPatternSpent, RefutesPatterns}
-use Rattle.pattern_search.specs.PatternSets.{IsPatternSet}
+use Rattle.league_search.specs.PatternLogs.{IsPatternSpent, RefutesPatterns}
+use Rattle.league_search.specs.PatternSets.{IsPatternSet}
 use Rattle.command_solve.specs.Solve as solves
 
 -- ---- texts

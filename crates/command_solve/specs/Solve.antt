@@ -32,7 +32,7 @@ use Rattle.moves.specs.declared.swap.Swap.{Swap}
 use Rattle.moves.specs.declared.swap.Swap.TheVariants.{HomeSwap, RoundSwap, TeamSwap, PartRoundSwap, PartTeamSwap}
 use Rattle.descent.specs.Descended.{Descended}
 use Rattle.descent.specs.Trail.{IsClimb}
-use Rattle.pattern_search.specs.declared.found.PatternFound.{PatternFound}
+use Rattle.league_search.specs.declared.found.PatternFound.{PatternFound}
 use Rattle.solve.specs.Kept.{AreKeptTo}
 use Rattle.solve.specs.Solutions.{IsDescent, LeavesOpen, league_score}
 use Rattle.venue_counts.specs.VenueCounts.{are_crowded, are_short}

@@ -4,7 +4,7 @@
 //! league.
 //!
 //! A contract sees the answers of `solve` by the stages of `specs/Solve.antt` and `specs/From.antt`, and those of
-//! `patterns` by `specs/Patterns.antt`. What is found is said by the definitions of `solve` and of `pattern_search`.
+//! `patterns` by `specs/Patterns.antt`. What is found is said by the definitions of `solve` and of `league_search`.
 #![tactic(auto)]
 
 mod comments;

@@ -20,7 +20,7 @@ use break_counts::{break_count, break_sum};
 use clause_search::tidy_text;
 use encoding::Encoding;
 use league::League;
-use pattern_search::{PatternFound, pattern_set};
+use league_search::{PatternFound, pattern_set};
 use patterns::PatternSet;
 use refutation::Log;
 use std::alloc::{AllocError, Global};

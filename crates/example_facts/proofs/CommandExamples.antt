@@ -1,6 +1,6 @@
 -- What `validate`, `solve` and `patterns` answer of leagues of two teams. x(0,1,s) is 1 + s, x(1,0,s) 3 + s, h(0,s) 5 + s,
 -- and h(1,s) 7 + s.
-use Rattle.pattern_search.proofs.NewsLemmas.{ArePatternNews-none}
+use Rattle.league_search.proofs.NewsLemmas.{ArePatternNews-none}
 use Rattle.clause_search.proofs.SearchLemmas.{AreNews-none}
 use Rattle.std.proofs.Common.{lit<, ◌≡◌, ◌⊎◌, ℕ, zero, suc, ◌<◌, ◌≤◌, Bool, true, false, if◌then◌else◌, List, []}
 use Rattle.std.proofs.Common.{◌∷◌, ◌++◌, ◌==◌, length, Option, Some, None, Ok, IsSomeAnd, IsTrue, codes}
@@ -50,11 +50,11 @@ use Rattle.refutation_check.proofs.SoundLemmas.{accepted_logs_refute}
 use Rattle.decoding.specs.Excluded.{NoneAccepted}
 use Rattle.decoding.proofs.SeasonLemmas.{accepted_logs_exclude}
 use Rattle.clause_search.specs.News.{IsTidy}
-use Rattle.pattern_search.specs.PatternLogs.{IsPatternSpent, RefutesPatterns}
-use Rattle.pattern_search.specs.PatternRows.{is_pattern_row, pattern_rows}
-use Rattle.pattern_search.specs.PatternSets.{IsPatternSet, is_home, letter_at}
-use Rattle.pattern_search.specs.declared.found.PatternFound.TheVariants as pattern_answers
-use Rattle.pattern_search.specs.declared.found.PatternFound.TheVariants.{Patterns}
+use Rattle.league_search.specs.PatternLogs.{IsPatternSpent, RefutesPatterns}
+use Rattle.league_search.specs.PatternRows.{is_pattern_row, pattern_rows}
+use Rattle.league_search.specs.PatternSets.{IsPatternSet, is_home, letter_at}
+use Rattle.league_search.specs.declared.found.PatternFound.TheVariants as pattern_answers
+use Rattle.league_search.specs.declared.found.PatternFound.TheVariants.{Patterns}
 use Rattle.robin_watch.specs.declared.budgets.Budgets.{Budgets}
 use Rattle.descent.specs.Descended.{Descended}
 use Rattle.descent.specs.Settled.{IsSettled}

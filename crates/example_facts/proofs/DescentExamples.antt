@@ -1,5 +1,5 @@
 -- Descents of the league of SolveExamples, what a search leaves open, whole answers, and the best of two tries.
-use Rattle.pattern_search.proofs.NewsLemmas.{ArePatternNews-none}
+use Rattle.league_search.proofs.NewsLemmas.{ArePatternNews-none}
 use Rattle.std.proofs.Common.{lit<, lit≤, ◌≡◌, ℕ, zero, suc, ◌+◌, ◌<◌, ◌≤◌, ◌==◌, Bool, true, false, ◌&&◌, ◌||◌, nat_lt, cond}
 use Rattle.std.proofs.Common.{if◌then◌else◌, List, [], ◌∷◌, get_or, length, Option, Some, None, IfSome}
 use Rattle.std.proofs.Common.{inl, inr, refl, sym, arith, ap, ap₂, IsTrue}
@@ -20,9 +20,9 @@ use Rattle.moves.specs.Neighbours.{home_swap}
 use Rattle.moves.specs.declared.swap.Swap.{Swap}
 use Rattle.refutation.specs.Following.{all_free}
 use Rattle.clause_search.specs.News.{IsTidy}
-use Rattle.pattern_search.specs.PatternRows.{pattern_rows}
-use Rattle.pattern_search.specs.PatternSets.{SayPatterns, is_home, letter_at}
-use Rattle.pattern_search.specs.declared.found.PatternFound.TheVariants as patterns
+use Rattle.league_search.specs.PatternRows.{pattern_rows}
+use Rattle.league_search.specs.PatternSets.{SayPatterns, is_home, letter_at}
+use Rattle.league_search.specs.declared.found.PatternFound.TheVariants as patterns
 use Rattle.descent.specs.Descended.{Descended}
 use Rattle.descent.specs.Settled.{IsLowering, IsSettled}
 use Rattle.robin_watch.specs.declared.budgets.Budgets.{Budgets}

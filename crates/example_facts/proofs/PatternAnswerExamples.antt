@@ -38,12 +38,12 @@ use Rattle.moves.specs.Moves.{game}
 use Rattle.tally.specs.declared.weigh.Sums.{Sums}
 use Rattle.descent.specs.Score.{AreBoundsBelow}
 use Rattle.descent.specs.declared.score.Score.{Score}
-use Rattle.pattern_search.specs.Answers.{IsPatternAnswer}
-use Rattle.pattern_search.specs.PatternLogs.{ArePatternNews, IsPatternNews, TellOfPatterns}
-use Rattle.pattern_search.specs.PatternRows.{is_pattern_row, pattern_rows}
-use Rattle.pattern_search.specs.PatternSets.{IsPatternSet, is_home, letter_at}
-use Rattle.pattern_search.specs.declared.found.PatternFound.TheVariants.{Patterns, Refuted, Spent}
-use Rattle.pattern_search.proofs.NewsLemmas.{ArePatternNews-none}
+use Rattle.league_search.specs.PatternAnswers.{IsPatternAnswer}
+use Rattle.league_search.specs.PatternLogs.{ArePatternNews, IsPatternNews, TellOfPatterns}
+use Rattle.league_search.specs.PatternRows.{is_pattern_row, pattern_rows}
+use Rattle.league_search.specs.PatternSets.{IsPatternSet, is_home, letter_at}
+use Rattle.league_search.specs.declared.found.PatternFound.TheVariants.{Patterns, Refuted, Spent}
+use Rattle.league_search.proofs.NewsLemmas.{ArePatternNews-none}
 use Rattle.example_facts.proofs.PatternSearchExamples.{spent-two}
 use Rattle.example_facts.proofs.StateExamples.{false_true, quiet_two, rows}
 

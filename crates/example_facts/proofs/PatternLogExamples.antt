@@ -1,6 +1,6 @@
 -- Two teams of which neither may have had more home games than the other behind slot 0: h(0,s) is 5 + s, h(1,s) 7 + s,
 -- so that 5 and 7 would have to be equal, and one of them alone is true.
-use Rattle.pattern_search.proofs.NewsLemmas.{ArePatternNews-one}
+use Rattle.league_search.proofs.NewsLemmas.{ArePatternNews-one}
 use Rattle.std.proofs.Common.{◌≡◌, ◌≢◌, ℕ, zero, suc, ◌+◌, ◌<◌, ◌≤◌, Bool, true, false, List, [], ◌∷◌, get_or, length}
 use Rattle.std.proofs.Common.{◌-◌, ◌&&◌, ◌++◌, IsTrue, Some, drop, map, refl, ap, subst, arith, length-append, lit<}
 use Rattle.std.proofs.Common.{lit≤, sym, ◌^◌}
@@ -28,9 +28,9 @@ use Rattle.refutation.specs.Verdict.{verdict_of}
 use Rattle.refutation.specs.declared.verdict.Verdict.TheVariants.{Accepted}
 use Rattle.clause_search.specs.News.{IsTidy, row_of}
 use Rattle.decoding.proofs.SeasonLemmas.{accepted_logs_exclude}
-use Rattle.pattern_search.specs.PatternLogs.{IsPatternNews, NamesPatternRows, RefutesPatterns}
-use Rattle.pattern_search.specs.PatternRows.{is_pattern_row, pattern_rows}
-use Rattle.pattern_search.specs.PatternSets.{SayPatterns, is_away, is_home, letter_at}
+use Rattle.league_search.specs.PatternLogs.{IsPatternNews, NamesPatternRows, RefutesPatterns}
+use Rattle.league_search.specs.PatternRows.{is_pattern_row, pattern_rows}
+use Rattle.league_search.specs.PatternSets.{SayPatterns, is_away, is_home, letter_at}
 
 abbrev even : Constraint
 even = record { hard = true; penalty = 1; class = Fa2 (0 ∷ 1 ∷ []) 0 (0 ∷ []) }

@@ -1,6 +1,6 @@
 -- Two teams without constraints: h(0,s) is 5 + s, h(1,s) 7 + s. Their pattern rows ask that one team is at home in each
 -- slot, and that each team is once.
-use Rattle.pattern_search.proofs.NewsLemmas.{ArePatternNews-none}
+use Rattle.league_search.proofs.NewsLemmas.{ArePatternNews-none}
 use Rattle.std.proofs.Common.{◌≡◌, ℕ, zero, suc, ◌+◌, ◌<◌, ◌≤◌, Bool, true, false, List, [], ◌∷◌, get_or, length}
 use Rattle.std.proofs.Common.{Some, refl, arith, lit<}
 use Rattle.std.proofs.lemmas.List.Elements.{All-nil, All-from_recursion}
@@ -19,9 +19,9 @@ use Rattle.encoding.specs.Variables.{h_var}
 use Rattle.patterns.specs.Pattern.{IsPattern}
 use Rattle.refutation.specs.Following.{all_free}
 use Rattle.clause_search.specs.News.{IsTidy}
-use Rattle.pattern_search.specs.PatternLogs.{IsPatternSpent}
-use Rattle.pattern_search.specs.PatternRows.{pattern_rows}
-use Rattle.pattern_search.specs.PatternSets.{IsPatternSet, SayPatterns, is_home, letter_at}
+use Rattle.league_search.specs.PatternLogs.{IsPatternSpent}
+use Rattle.league_search.specs.PatternRows.{pattern_rows}
+use Rattle.league_search.specs.PatternSets.{IsPatternSet, SayPatterns, is_home, letter_at}
 
 abbrev two : Instance
 two = record { n = 2; phased = false; constraints = [] }

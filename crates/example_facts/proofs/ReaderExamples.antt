@@ -36,7 +36,7 @@ use Rattle.bound_rows.specs.Bounded.{IsCounted, IsSystem}
 use Rattle.resume.specs.Systems.{PartlyPlayed, rows_for}
 use Rattle.resume.specs.Systems as resumed
 use Rattle.descent.specs.Descended.{Descended}
-use Rattle.pattern_search.specs.declared.found.PatternFound.TheVariants as patterns
+use Rattle.league_search.specs.declared.found.PatternFound.TheVariants as patterns
 use Rattle.solve.specs.Solutions.{HasSchedule, IsRefuted}
 use Rattle.solve.specs.declared.solved.Solved.TheVariants.{Refuted, Schedule, Spent}
 

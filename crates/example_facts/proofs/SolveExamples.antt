@@ -39,7 +39,7 @@ use Rattle.refutation.specs.declared.verdict.Cause.TheVariants.{NoConflict, NoEm
 use Rattle.refutation.specs.declared.verdict.Verdict.TheVariants.{Accepted, Rejected}
 use Rattle.refutation.specs.declared.version.Version.TheVariants.{One, Two}
 use Rattle.clause_search.specs.News.{IsTidy}
-use Rattle.pattern_search.specs.PatternRows.{pattern_rows}
+use Rattle.league_search.specs.PatternRows.{pattern_rows}
 use Rattle.decoding.proofs.SeasonLemmas.{accepted_logs_exclude}
 use Rattle.solve.specs.Solutions.{IsSpentOn, IsWritable, RefutesLeague}
 use Rattle.league_search.proofs.FoundLemmas.{more-plain, plain_spent, search-plain}

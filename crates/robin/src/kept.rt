@@ -1,9 +1,8 @@
 //! A run whose text goes into a file, or to standard output.
 
 use crate::line::Line;
-use answers::{Advice, Status};
+use answers::{Advice, Goes, Status, goes_to};
 use command_line::{Topic, read_words, seconds_of};
-use program_words::{Goes, goes_to};
 use robin_host::{Draft, HostWatch, InputShelf, SeasonKeeper, Telling, hand_on};
 use robin_io::{HostShelf, HostSink, Sink, put_all};
 use robin_run::run;

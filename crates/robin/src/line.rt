@@ -1,7 +1,7 @@
 //! The words of the command line: those of the program itself, and those of the command.
 
+use answers::{Own, Standing, is_name, is_quiet, is_twice, left_words, value_of, with_input};
 use command_line::{Topic, topic_of};
-use program_words::{Own, Standing, is_name, is_quiet, is_twice, left_words, value_of, with_input};
 use std::alloc::{AllocError, Global};
 
 /// The words of the command line.

@@ -6,7 +6,7 @@ use Rattle.answers.specs.Reply.{Answer}
 use Rattle.answers.specs.declared.status.Status.TheVariants.{Yes, File, Refuted, Spent}
 use Rattle.command_check.proofs.AnswerLemmas.{encodes-small}
 use Rattle.command_solve.specs.Circle.{circle_season}
-use Rattle.program_words.specs.Help.{help_answer, version_answer}
+use Rattle.answers.specs.Help.{help_answer, version_answer}
 use Rattle.instance_gen.specs.Draws.{seeded}
 use Rattle.instance_gen.specs.Made.{made_league}
 use Rattle.command_solve.specs.MadeInstance.{IsMade}

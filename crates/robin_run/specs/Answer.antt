@@ -12,7 +12,7 @@ use Rattle.command_line.specs.Words.Command.{Validate, Show, Demands, Sheet, Che
 use Rattle.command_line.specs.Words.Command.{Bound, Resume, ResumeNear, Audit, Rows, Values, Circle, Make, Trial, Help, Version}
 use Rattle.command_explain.specs.Explained.{explained}
 use Rattle.command_explain.specs.Parted.{parted}
-use Rattle.program_words.specs.Help.{help_answer, version_answer}
+use Rattle.answers.specs.Help.{help_answer, version_answer}
 use Rattle.command_solve.specs.MadeInstance.{IsMade}
 use Rattle.command_solve.specs.Patterns.{patterned}
 use Rattle.command_prove.specs.Floor.{IsShownWith}

@@ -2,7 +2,7 @@
 use Rattle.std.specs.Prelude.{◌≡◌, [], Option, Some}
 use Rattle.command_line.specs.Words.{Command}
 use Rattle.command_line.specs.declared.topic.Topic.{Topic}
-use Rattle.program_words.specs.Help.{help_answer, version_answer}
+use Rattle.answers.specs.Help.{help_answer, version_answer}
 use Rattle.robin_run.specs.Run.{NothingFails, Run, Writes}
 
 pub record Promise (run : Run) (topic : Option Topic) : Type 0 where

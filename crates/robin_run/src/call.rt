@@ -20,7 +20,7 @@ ghost use Rattle.robin_run.specs.Run.{Answered, run_of, step_room};
 ghost use Rattle.robin_run.specs.Taken.{most_taken};
 
 use crate::given::{Given, give};
-use answers::{NoValue, Reply, Status, write_answer};
+use answers::{NoValue, Reply, Status, help, refuse_words, version, write_answer};
 use command_check::check;
 use command_explain::{explain_file, part_file};
 use command_line::{Goal, Words, members, read_words, room_of};
@@ -32,7 +32,6 @@ use command_rows::{ReadyRows, rows_file, values_file, write_rows};
 use command_show::{Form, demands, show};
 use command_solve::{circle, make_league, patterns_file, solve_file, solve_from_file, trial};
 use command_validate::validate;
-use program_words::{help, refuse_words, version};
 use robin_io::{Shelf, Sink, put_all};
 use robin_watch::{Listener, News};
 use std::alloc::Global;

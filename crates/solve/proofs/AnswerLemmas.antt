@@ -22,12 +22,12 @@ use Rattle.clause_search.specs.Answers.{Refutes}
 use Rattle.clause_search.specs.News.{IsTidy}
 use Rattle.clause_search.proofs.LineLemmas.{step_named, step_short}
 use Rattle.robin_watch.specs.Limits.{IsKeptTo}
-use Rattle.pattern_search.specs.Answers.{IsPatternAnswer, IsPatternAnswerBy}
-use Rattle.pattern_search.specs.PatternLogs.{IsPatternSpent, RefutesPatterns}
-use Rattle.pattern_search.specs.PatternRows.{pattern_rows}
-use Rattle.pattern_search.specs.declared.found.PatternFound.{PatternFound}
-use Rattle.pattern_search.specs.declared.found.PatternFound.TheVariants.{Spent}
-use Rattle.pattern_search.proofs.NewsLemmas.{pattern_news-clauses}
+use Rattle.league_search.specs.PatternAnswers.{IsPatternAnswer, IsPatternAnswerBy}
+use Rattle.league_search.specs.PatternLogs.{IsPatternSpent, RefutesPatterns}
+use Rattle.league_search.specs.PatternRows.{pattern_rows}
+use Rattle.league_search.specs.declared.found.PatternFound.{PatternFound}
+use Rattle.league_search.specs.declared.found.PatternFound.TheVariants.{Spent}
+use Rattle.league_search.proofs.NewsLemmas.{pattern_news-clauses}
 use Rattle.decoding.proofs.SeasonLemmas.{accepted_logs_exclude}
 use Rattle.league_search.specs.Answers.{RefutesBehind}
 use Rattle.solve.specs.Solutions.{IsWritable, RefutesLeague}

@@ -8,7 +8,7 @@ use Rattle.robin_watch.proofs.LimitLemmas.{kept-unstopped}
 use Rattle.league.specs.Instance.{Instance}
 use Rattle.league.specs.declared.game.Game.{Game}
 use Rattle.descent.specs.Descended.{Descended}
-use Rattle.pattern_search.specs.declared.found.PatternFound.{PatternFound}
+use Rattle.league_search.specs.declared.found.PatternFound.{PatternFound}
 use Rattle.solve.specs.Chosen as chosen
 use Rattle.solve.specs.Kept.{AreKeptTo}
 use Rattle.solve.specs.Solutions.{IsDescent, IsSchedule, IsSolution, IsSolutionBy, IsSomeSolution, LeavesOpen}

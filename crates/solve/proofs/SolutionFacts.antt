@@ -23,7 +23,7 @@ use Rattle.moves.specs.Moves.{moved}
 use Rattle.moves.specs.Neighbours.{home_swap}
 use Rattle.descent.specs.Descended.{Descended}
 use Rattle.descent.specs.Settled.{IsSettled}
-use Rattle.pattern_search.specs.declared.found.PatternFound.TheVariants.{Patterns, Refuted, Spent}
+use Rattle.league_search.specs.declared.found.PatternFound.TheVariants.{Patterns, Refuted, Spent}
 use Rattle.solve.specs.Solutions.{IsSchedule, IsSpentOn, IsWritable, LeavesOpen, league_score}
 
 abbrev two : Instance

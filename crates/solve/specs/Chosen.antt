@@ -1,6 +1,6 @@
 -- What is kept of two tries.
 use Rattle.std.specs.Prelude.{nat_lt, if◌then◌else◌, Option, None, Some}
-use Rattle.pattern_search.specs.declared.found.PatternFound.{PatternFound}
+use Rattle.league_search.specs.declared.found.PatternFound.{PatternFound}
 use Rattle.solve.specs.declared.lower.Season.{Season}
 use Rattle.solve.specs.declared.solved.Solved.{Solved}
 use Rattle.solve.specs.declared.solved.Solved.TheVariants as answers

@@ -19,10 +19,10 @@ use Rattle.descent.specs.Descended.{Descended}
 use Rattle.descent.specs.Settled.{IsSettled}
 use Rattle.descent.specs.Trail.{IsTrail}
 use Rattle.descent.specs.declared.score.Score.{Score}
-use Rattle.pattern_search.specs.PatternLogs.{IsPatternSpent}
-use Rattle.pattern_search.specs.PatternSets.{IsPatternSet}
-use Rattle.pattern_search.specs.declared.found.PatternFound.{PatternFound}
-use Rattle.pattern_search.specs.declared.found.PatternFound.TheVariants as found
+use Rattle.league_search.specs.PatternLogs.{IsPatternSpent}
+use Rattle.league_search.specs.PatternSets.{IsPatternSet}
+use Rattle.league_search.specs.declared.found.PatternFound.{PatternFound}
+use Rattle.league_search.specs.declared.found.PatternFound.TheVariants as found
 use Rattle.decoding.specs.Excluded.{NoneAccepted}
 pub use Rattle.league_search.specs.Answers.{IsSpentOn, IsWritable}
 use Rattle.solve.specs.Kept.{AreKeptTo}

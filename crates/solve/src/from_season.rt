@@ -24,7 +24,7 @@ use crate::solved::Solved;
 use crate::tries::{is_refuted, schedule_found, solved_by, with_later};
 use encoding::{EncodeFault, Encoding, check_size, encode_small};
 use league::{League, Schedule};
-use pattern_search::{PatternFound, pattern_set_watched};
+use league_search::{PatternFound, pattern_set_watched};
 use robin_watch::{Budgets, Listener, News, Phase};
 use std::alloc::{AllocError, Global};
 

@@ -1,7 +1,7 @@
 //! What a league is solved by.
 use descent::Descent;
 use league::Schedule;
-use pattern_search::PatternFound;
+use league_search::PatternFound;
 use refutation::Log;
 
 /// What is found of a league. `specs/Solutions.antt` says what each answer promises.

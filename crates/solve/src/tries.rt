@@ -7,7 +7,7 @@ ghost use Rattle.solve.specs.declared.lower.Season.{Season};
 
 use crate::lower::Season;
 use crate::solved::Solved;
-use pattern_search::PatternFound;
+use league_search::PatternFound;
 use refutation::Log;
 
 /// What one try comes to.

@@ -1,6 +1,6 @@
 use Rattle.encoding.specs.Variables.{var_count}
 use Rattle.league.specs.Counts.{counts_of}
-use Rattle.pattern_search.proofs.LogLemmas.{refuted-clauses}
+use Rattle.league_search.proofs.LogLemmas.{refuted-clauses}
 use Rattle.resume.specs.Kept.{resume_rows}
 use Rattle.command_resume.proofs.FoundLemmas.{all_tidy, spent-clauses}
 use Rattle.command_resume.proofs.NearLemmas.{replied-refuted, replied-season, replied-spent}

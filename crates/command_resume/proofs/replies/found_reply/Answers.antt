@@ -1,6 +1,6 @@
 use Rattle.encoding.specs.Variables.{var_count}
 use Rattle.league.specs.Counts.{counts_of}
-use Rattle.pattern_search.proofs.LogLemmas.{refuted-clauses}
+use Rattle.league_search.proofs.LogLemmas.{refuted-clauses}
 use Rattle.resume.specs.Kept.{resume_rows}
 use Rattle.command_resume.proofs.FoundLemmas.{all_tidy, replied-excluded, replied-planned}
 use Rattle.command_resume.proofs.FoundLemmas.{replied-spent, spent-clauses}

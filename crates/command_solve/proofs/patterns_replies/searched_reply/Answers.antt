@@ -1,7 +1,7 @@
 use Rattle.std.proofs.Common.{◌≡◌, ℕ, Option, subst}
 use Rattle.league.specs.Instance.{Instance}
-use Rattle.pattern_search.specs.Answers.{IsPatternAnswer}
-use Rattle.pattern_search.specs.declared.found.PatternFound.{PatternFound}
+use Rattle.league_search.specs.PatternAnswers.{IsPatternAnswer}
+use Rattle.league_search.specs.declared.found.PatternFound.{PatternFound}
 use Rattle.command_solve.proofs.PatternsFound.{all_tidy, refuted-clauses, spent-clauses}
 use Rattle.command_solve.proofs.patterns_replies.searched_reply.Goals as goal
 

@@ -1,7 +1,0 @@
-use Rattle.pattern_search.proofs.StopLemmas.{unstopped}
-use Rattle.pattern_search.proofs.finder.pattern_set.Goals as goal
-
-pub returns : goal.returns
-returns c =
-    unstopped c.args.encoding.now c.args.limit _ c.pattern_set_watched.result (λ never. never)
-    c.pattern_set_watched.ensures

@@ -1,6 +1,0 @@
-use Rattle.std.specs.Prelude.{length}
-use Rattle.program_words.proofs.taken.+value_from.Given as goal
-
--- each call is on fewer words
-abbrev pub decreases-value_from : goal.decreases-value_from
-decreases-value_from l = length l.words.now
