@@ -18,8 +18,8 @@ use Rattle.encoding.specs.Season.{break_rows}
 use Rattle.encoding.specs.Shadow.{IsShadow, decoded}
 use Rattle.encoding.specs.Variables.{ab_var, bounds_breaks, h_count, h_var, has_breaks, hb_count, hb_var, x_count}
 use Rattle.encoding.specs.Variables.{x_var}
-use Rattle.encoding.proofs.Places.{ab_var-place, b_place-below, h_place-below, h_var-place, hb_var-place}
-use Rattle.encoding.proofs.Places.{x_place-below, x_var-place}
+use Rattle.encoding.proofs.PlaceLemmas.{ab_var-place, b_place-below, h_place-below, h_var-place, hb_var-place}
+use Rattle.encoding.proofs.PlaceLemmas.{x_place-below, x_var-place}
 use Rattle.decoding.specs.Mirrors.{MirrorsBreaks}
 use Rattle.decoding.proofs.ConstraintLaws.{MeetsHard-from_true, all_fit, constraints_law, meets_hard-true}
 use Rattle.decoding.proofs.SeasonRows.{IsMirroredSeason, both_satisfied, break_rows-met_by, mirrored-from_shadow}

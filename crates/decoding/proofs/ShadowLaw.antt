@@ -8,8 +8,8 @@ use Rattle.league.specs.Venues.{away_games, home_games}
 use Rattle.league.specs.declared.game.Game.{Game}
 use Rattle.encoding.specs.Shadow.{IsShadow}
 use Rattle.encoding.specs.Variables.{ab_var, h_count, h_var, hb_var, x_count, x_var}
-use Rattle.encoding.proofs.Places.{ab_var-place, b_place-below, h_place-below, h_var-place, hb_var-place}
-use Rattle.encoding.proofs.Places.{x_place-below, x_var-place}
+use Rattle.encoding.proofs.PlaceLemmas.{ab_var-place, b_place-below, h_place-below, h_var-place, hb_var-place}
+use Rattle.encoding.proofs.PlaceLemmas.{x_place-below, x_var-place}
 use Rattle.decoding.specs.Marks.{marks_away, marks_away_break, marks_game, marks_home, marks_home_break}
 use Rattle.decoding.proofs.ShadowLemmas.{away_breaks_marked, aways_marked, games_marked, home_breaks_marked}
 use Rattle.decoding.proofs.ShadowLemmas.{homes_marked, no_away_break_marked}

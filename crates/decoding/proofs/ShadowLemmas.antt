@@ -13,9 +13,9 @@ use Rattle.league.specs.declared.game.Game.{Game}
 use Rattle.league.proofs.RangeLemmas.{one_if}
 use Rattle.league.proofs.OneTermLemmas.{sum_by-swap}
 use Rattle.encoding.specs.Variables.{ab_var, h_count, h_var, hb_count, hb_var, x_count, x_var}
-use Rattle.encoding.proofs.Places.{ab_var-place, b_place, b_place-below, h_place, h_place-below, h_var-place}
-use Rattle.encoding.proofs.Places.{hb_var-place, same_break, same_game, same_venue}
-use Rattle.encoding.proofs.Places.{x_place, x_place-below, x_var-place}
+use Rattle.encoding.proofs.PlaceLemmas.{ab_var-place, b_place, b_place-below, h_place, h_place-below, h_var-place}
+use Rattle.encoding.proofs.PlaceLemmas.{hb_var-place, same_break, same_game, same_venue}
+use Rattle.encoding.proofs.PlaceLemmas.{x_place, x_place-below, x_var-place}
 use Rattle.decoding.specs.Marks.{marks_away, marks_away_break, marks_game, marks_home, marks_home_break}
 use Rattle.decoding.proofs.DecodedCounts.{pick}
 use Rattle.decoding.proofs.MarkLemmas.{list_any-agree, list_any-both, list_any-counted, list_any-never, same_tests}

@@ -9,9 +9,9 @@ use Rattle.league.specs.Counts.{Counts, slot_count}
 use Rattle.league.specs.Venues.{home_games}
 use Rattle.encoding.specs.Shadow.{IsShadow}
 use Rattle.encoding.specs.Variables.{ab_var, h_count, h_var, hb_count, hb_var, place_beside, x_count, x_var}
-use Rattle.encoding.proofs.Places.{ab_var-place, b_place, b_place-below, h_place, h_place-below, h_var-place}
-use Rattle.encoding.proofs.Places.{hb_var-place, place_beside-below}
-use Rattle.encoding.proofs.Places.{team_at, team_at-place_beside, x_place, x_place-below, x_var-place}
+use Rattle.encoding.proofs.PlaceLemmas.{ab_var-place, b_place, b_place-below, h_place, h_place-below, h_var-place}
+use Rattle.encoding.proofs.PlaceLemmas.{hb_var-place, place_beside-below}
+use Rattle.encoding.proofs.PlaceLemmas.{team_at, team_at-place_beside, x_place, x_place-below, x_var-place}
 
 -- whether the game at a place takes place
 abbrev game_at : ℕ → Counts → ℕ → Bool

@@ -47,7 +47,7 @@ use Rattle.encoding.proofs.LiteralOrder.{teams_ascend}
 use Rattle.encoding.proofs.MeetingOrder.{AreMeetings-all, AreMeetings-both, AreMeetings-filter, AreMeetings-from_test}
 use Rattle.encoding.proofs.MeetingOrder.{AreMeetings-in_order, AreMeetings-one, AreSlots-all, AreSlots-from_test}
 use Rattle.encoding.proofs.MeetingOrder.{AreTeams-all, AreTeams-from_test, meetings_with-both, pairs_of-in_order}
-use Rattle.encoding.proofs.Places.{b_place-below, ab_var-place, h_place-below, h_var-place, hb_var-place}
+use Rattle.encoding.proofs.PlaceLemmas.{b_place-below, ab_var-place, h_place-below, h_var-place, hb_var-place}
 use Rattle.encoding.proofs.TieLemmas.{AreSlots-one, game_tie_ascend, home_tie_ascend}
 
 abbrev var_of : Literal → ℕ

@@ -12,7 +12,7 @@ pub mod PairLemmas
 pub mod FewLemmas
 pub mod MemberLemmas
 -- The numbers of variables, read back:
-pub mod Places
+pub mod PlaceLemmas
 -- The rows of a class by its subjects, and which these are:
 pub mod KeyLaws
 pub mod SubjectLemmas

@@ -29,7 +29,7 @@ use Rattle.encoding.proofs.AscendLemmas.{AscendsBy-above, AscendsBy-after, Ascen
 use Rattle.encoding.proofs.AscendLemmas.{AscendsBy-below, AscendsBy-blocks, AscendsBy-filter, AscendsBy-flat_map}
 use Rattle.encoding.proofs.AscendLemmas.{AscendsBy-from_ascending, AscendsBy-high, AscendsBy-low}
 use Rattle.encoding.proofs.AscendLemmas.{AscendsBy-map, AscendsBy-range, AscendsBy-same, AscendsBy-shift}
-use Rattle.encoding.proofs.Places.{place_beside-below}
+use Rattle.encoding.proofs.PlaceLemmas.{place_beside-below}
 
 -- ---- numbers
 

@@ -13,7 +13,7 @@ use Rattle.encoding.specs.Encoding.{rows_of}
 use Rattle.encoding.specs.Known.{AreKnown, IsKnown}
 use Rattle.encoding.specs.Variables.{var_count, x_count, x_var}
 use Rattle.encoding.proofs.AscendLemmas.{AscendsBy-below, AscendsBy-range}
-use Rattle.encoding.proofs.Places.{x_place-below, x_var-place}
+use Rattle.encoding.proofs.PlaceLemmas.{x_place-below, x_var-place}
 use Rattle.encoding.proofs.KnownLemmas.{rows_of-known}
 use Rattle.decoding.proofs.MeetingLists.{meeting_parts, meetings_of-fit}
 use Rattle.resume.specs.Kept.{kept_literal, kept_row, kept_rows, kept_rows_in, resume_rows}

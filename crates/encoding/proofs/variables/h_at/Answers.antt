@@ -1,7 +1,7 @@
 -- The place of a team in a slot is below their number.
 use Rattle.std.proofs.Common.{◌≡◌, ◌+◌, ◌*◌, arith}
 use Rattle.encoding.specs.Variables.{h_var}
-use Rattle.encoding.proofs.Places.{h_place-below, h_var-place}
+use Rattle.encoding.proofs.PlaceLemmas.{h_place-below, h_var-place}
 use Rattle.encoding.proofs.variables.h_at.Goals as goal
 
 pub returns-clause-at_most : goal.returns-clause-at_most

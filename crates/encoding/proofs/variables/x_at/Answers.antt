@@ -2,7 +2,7 @@
 use Rattle.std.proofs.Common.{◌≡◌, ◌+◌, ◌*◌, arith}
 use Rattle.encoding.specs.Variables.{x_var}
 use Rattle.encoding.proofs.NumberLemmas.{x_count-few}
-use Rattle.encoding.proofs.Places.{x_place-below, x_var-place}
+use Rattle.encoding.proofs.PlaceLemmas.{x_place-below, x_var-place}
 use Rattle.encoding.proofs.variables.x_at.Goals as goal
 
 pub returns-clause-at_most : goal.returns-clause-at_most
