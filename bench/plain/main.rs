@@ -8,14 +8,10 @@ mod circle_method;
 mod clause_search;
 mod decoding;
 mod encoding;
-mod encoding_base;
-mod encoding_rows;
-mod encoding_sizes;
 mod floors;
 mod league;
 mod league_file;
 mod league_search;
-mod plane_floors;
 mod planes;
 mod prelude;
 mod propagate;
@@ -111,7 +107,7 @@ fn add_derived(start: &mut Start, rows: &RowStore, from: usize) -> Result<(), Al
 /// Adds the law of the fewest breaks to what a search by planes over so many rows begins with.
 fn add_laws(start: &mut Start, league: &League, rows: u64) -> Result<(), AllocError> {
     let venues = false;
-    let laws = plane_floors::start::start_of(Global, league, rows + start.steps.len() as u64, venues)?;
+    let laws = floors::plane_start::start_of(Global, league, rows + start.steps.len() as u64, venues)?;
     for step in 0..laws.steps.len() {
         match laws.steps.kind(step) {
             StepKind::Clause => start.steps.push(laws.steps.clause(step), laws.steps.hints(step))?,
@@ -182,7 +178,7 @@ fn search_bound(league: &League, bound: u64, way: &Way) -> Result<Outcome, Alloc
     let terms = bound_terms(league);
     if way.planes {
         let most = way.limit.unwrap_or(u64::MAX);
-        let found = plane_floors::plane_floor(Global, league, bound + 1, terms, most, &way.clock)?;
+        let found = floors::plane_floor(Global, league, bound + 1, terms, most, &way.clock)?;
         return Ok(found.map(|floor| floor.log).into());
     }
     let system = bound_system(Global, league, bound, terms)?;

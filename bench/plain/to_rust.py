@@ -7,8 +7,8 @@ import re
 import shutil
 import sys
 
-CRATES = """league robin_watch rows refutation propagate refutation_check clause_search circle_method encoding_base
-    encoding_sizes encoding_rows encoding decoding break_counts league_search planes bound_rows floors plane_floors""".split()
+CRATES = """league robin_watch rows refutation propagate refutation_check clause_search circle_method encoding decoding
+    break_counts league_search planes bound_rows floors""".split()
 # What reads texts, or needs crates that aren't written.
 LEFT_OUT = {
     "refutation": "fault feed front group line place token".split(),
