@@ -159,7 +159,7 @@ fn search_league(encoding: &Encoding, way: &Way) -> Result<Outcome, AllocError> 
 fn search_planes(rows: &RowStore, vars: u32, start: Start, way: &Way) -> Result<Outcome, AllocError> {
     let mut desk = Desk::new(Global, rows, vars, start)?;
     if search(Global, &mut desk, vars, way.limit.unwrap_or(u64::MAX), &way.clock)? {
-        let log = desk.tools.take_steps(Global);
+        let log = desk.tools.draft.take(Global);
         assert_eq!(check(Global, rows, vars, &log)?, Verdict::Accepted);
         return Ok(Outcome::Refuted(log));
     }

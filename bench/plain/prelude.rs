@@ -1,5 +1,5 @@
 //! What the sources of the crates take of std: vectors with an allocator that is passed and never fails, which are read
-//! without tests.
+//! without tests; shared values with such an allocator; and a hasher.
 use std::ops::{Deref, DerefMut, Index, IndexMut, Range, RangeFrom, RangeFull, RangeTo};
 
 #[derive(Clone, Copy, Debug)]
@@ -7,6 +7,31 @@ pub struct Global;
 
 #[derive(Debug)]
 pub struct AllocError;
+
+/// A hasher: which one is free.
+pub type FoldHasher = std::hash::DefaultHasher;
+
+/// A value that is shared.
+#[derive(Debug)]
+pub struct Rc<T>(std::rc::Rc<T>);
+
+impl<T> Rc<T> {
+    pub fn new(_alloc: Global, item: T) -> Result<Rc<T>, AllocError> {
+        Ok(Rc(std::rc::Rc::new(item)))
+    }
+
+    pub fn clone(&self) -> Result<Rc<T>, AllocError> {
+        Ok(Rc(self.0.clone()))
+    }
+}
+
+impl<T> Deref for Rc<T> {
+    type Target = T;
+
+    fn deref(&self) -> &T {
+        &self.0
+    }
+}
 
 #[derive(Clone, Debug)]
 pub struct Vec<T>(std::vec::Vec<T>);

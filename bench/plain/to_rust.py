@@ -76,7 +76,8 @@ def in_plain_rust(text):
     """The text without what std's Rust doesn't have."""
     text = re.sub(r"#\[derive\(([^)]*)\)\]", derived, text)
     text = re.sub(r"^\s*#\[error\(.*\)\]\n", "", text, flags=re.M)
-    text = re.sub(r"^use (std::alloc::[^;]*|std::marker::Model|thiserror::Error);\n", "", text, flags=re.M)
+    text = re.sub(r"^use (std::alloc::[^;]*|std::marker::Model|std::rc::Rc|thiserror::Error);\n", "", text, flags=re.M)
+    text = text.replace("use std::hash::{FoldHasher, Hasher};", "use std::hash::Hasher;")
     text = re.sub(r"(<T|trait \w+): Drop\b", r"\1", text)
     return re.sub(r"vec!\[in ([a-z_.]+); ([^;]*); ([^;]*?)\]", r"Vec::filled(\1, \2, \3)", text)
 
