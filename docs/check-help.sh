@@ -3,6 +3,6 @@
 cd "$(dirname "$0")/.." || exit 1
 table=$(mktemp) && page=$(mktemp) || exit 1
 trap 'rm -f "$table" "$page"' EXIT
-sed -n '/^pub const ALL: &str = /,/^";$/p' crates/program_words/src/pages.rt | sed '1d;$d' >"$table"
+sed -n '/^pub const ALL: &str = /,/^";$/p' crates/answers/src/pages.rt | sed '1d;$d' >"$table"
 sed -n '/^```help$/,/^```$/p' docs/FORMATS.md | sed '1d;$d' >"$page"
 test -s "$table" && diff "$table" "$page"

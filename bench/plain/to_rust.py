@@ -14,6 +14,7 @@ LEFT_OUT = {
     "refutation": "fault feed front group line place token".split(),
     "decoding": "laws league_logs log_laws decoder".split(),
     "break_counts": "allowed bounds counts laws log searched shortage sums together".split(),
+    "league_search": "finder found letters lowered picked raised".split(),
     "bound_rows": ["laws"],
 }
 LEFT_OUT_CALLS = {("refutation", "log"): "push_clause_line push_linear_line push_line".split()}
