@@ -2,12 +2,12 @@
 use Rattle.std.proofs.Common.{◌≡◌, ℕ, ◌<◌, ◌≤◌, List, [], ◌∷◌, Some, None, codes, arith, inl, inr, refl}
 use Rattle.std.specs.Fmt.{digits}
 use Rattle.robinx.specs.declared.instance.TheConstants.{INSTANCE_LIMIT, SOLUTION_LIMIT}
-use Rattle.robinx_tags.specs.declared.fault.FormKind.TheVariants.{BadTag, BadAttribute, RepeatedAttribute}
-use Rattle.robinx_tags.specs.declared.fault.FormKind.TheVariants.{TooManyAttributes, Truncated, BadNesting}
-use Rattle.robinx_tags.specs.declared.fault.FormKind.TheVariants.{MissingElement, RepeatedElement, MissingAttribute}
-use Rattle.robinx_tags.specs.declared.fault.FormKind.TheVariants.{BadNumber, NumberTooLarge, UnknownTeam, UnknownSlot}
-use Rattle.robinx_tags.specs.declared.fault.FormKind.TheVariants.{SameTeam, BadChoice, UnsupportedClass, WrongCounts}
-use Rattle.robinx_tags.specs.declared.fault.FormKind.TheVariants.{TooMany}
+use Rattle.robinx.specs.declared.tag_fault.FormKind.TheVariants.{BadTag, BadAttribute, RepeatedAttribute}
+use Rattle.robinx.specs.declared.tag_fault.FormKind.TheVariants.{TooManyAttributes, Truncated, BadNesting}
+use Rattle.robinx.specs.declared.tag_fault.FormKind.TheVariants.{MissingElement, RepeatedElement, MissingAttribute}
+use Rattle.robinx.specs.declared.tag_fault.FormKind.TheVariants.{BadNumber, NumberTooLarge, UnknownTeam, UnknownSlot}
+use Rattle.robinx.specs.declared.tag_fault.FormKind.TheVariants.{SameTeam, BadChoice, UnsupportedClass, WrongCounts}
+use Rattle.robinx.specs.declared.tag_fault.FormKind.TheVariants.{TooMany}
 use Rattle.refutation.specs.declared.fault.LogKind.TheVariants as log_kinds
 use Rattle.answers.specs.Reply.{Answer, kind_word, log_kind_word, log_malformed, malformed, read_fault, refused_words, too_long}
 use Rattle.answers.specs.Status.{status_code}

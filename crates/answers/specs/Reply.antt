@@ -1,12 +1,12 @@
 -- Answers, and those that refuse.
 use Rattle.std.specs.Prelude.{ℕ, List, ◌++◌, codes, decimal}
-use Rattle.robinx_tags.specs.declared.fault.FormKind.{FormKind}
-use Rattle.robinx_tags.specs.declared.fault.FormKind.TheVariants.{BadTag, BadAttribute, RepeatedAttribute}
-use Rattle.robinx_tags.specs.declared.fault.FormKind.TheVariants.{TooManyAttributes, Truncated, BadNesting}
-use Rattle.robinx_tags.specs.declared.fault.FormKind.TheVariants.{MissingElement, RepeatedElement, MissingAttribute}
-use Rattle.robinx_tags.specs.declared.fault.FormKind.TheVariants.{BadNumber, NumberTooLarge, UnknownTeam, UnknownSlot}
-use Rattle.robinx_tags.specs.declared.fault.FormKind.TheVariants.{SameTeam, BadChoice, UnsupportedClass, WrongCounts}
-use Rattle.robinx_tags.specs.declared.fault.FormKind.TheVariants.{TooMany}
+use Rattle.robinx.specs.declared.tag_fault.FormKind.{FormKind}
+use Rattle.robinx.specs.declared.tag_fault.FormKind.TheVariants.{BadTag, BadAttribute, RepeatedAttribute}
+use Rattle.robinx.specs.declared.tag_fault.FormKind.TheVariants.{TooManyAttributes, Truncated, BadNesting}
+use Rattle.robinx.specs.declared.tag_fault.FormKind.TheVariants.{MissingElement, RepeatedElement, MissingAttribute}
+use Rattle.robinx.specs.declared.tag_fault.FormKind.TheVariants.{BadNumber, NumberTooLarge, UnknownTeam, UnknownSlot}
+use Rattle.robinx.specs.declared.tag_fault.FormKind.TheVariants.{SameTeam, BadChoice, UnsupportedClass, WrongCounts}
+use Rattle.robinx.specs.declared.tag_fault.FormKind.TheVariants.{TooMany}
 use Rattle.refutation.specs.declared.fault.LogKind.{LogKind}
 use Rattle.refutation.specs.declared.fault.LogKind.TheVariants as log_kinds
 use Rattle.answers.specs.declared.status.Status.{Status}

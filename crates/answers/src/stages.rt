@@ -3,7 +3,7 @@ ghost use Rattle.std.specs.Prelude.{◌≡◌, ◌+◌, ◌≤◌, ℕ, List, Ok
 ghost use Rattle.std.specs.List.{All};
 ghost use Rattle.robin_io.specs.Counts.{raised};
 ghost use Rattle.robin_io.specs.Outside.{output_between, store_between};
-ghost use Rattle.robinx_tags.specs.Pieces.{pieces};
+ghost use Rattle.robinx.specs.Pieces.{pieces};
 ghost use Rattle.league.specs.Instance.{IsGame};
 ghost use Rattle.robinx.specs.InstanceFile.{instance_of};
 ghost use Rattle.robinx.specs.SolutionFile.{solution_of};

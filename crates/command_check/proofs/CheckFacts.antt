@@ -4,8 +4,8 @@ use Rattle.std.specs.Prelude.{bytes_eq}
 use Rattle.std.specs.Fmt.{digits}
 use Rattle.answers.specs.Stages.{NoneFails}
 use Rattle.robin_io.specs.Outside.{Store}
-use Rattle.robinx_tags.specs.Pieces.{pieces, pieces_from}
-use Rattle.robinx_tags.specs.Tags.{attributes_at}
+use Rattle.robinx.specs.Pieces.{pieces, pieces_from}
+use Rattle.robinx.specs.Tags.{attributes_at}
 use Rattle.league.specs.Instance.{Instance}
 use Rattle.league.specs.declared.class.Class.TheVariants.{Ca1}
 use Rattle.league.specs.declared.class.Side.TheVariants.{H}

@@ -6,7 +6,7 @@ use Rattle.robin_io.specs.Counts.{raised}
 use Rattle.robin_io.specs.Rests.{IsRest}
 use Rattle.league.specs.Instance.{Instance, IsInstance}
 use Rattle.rows.specs.Rows.{Row}
-use Rattle.robinx_tags.specs.Pieces.{pieces}
+use Rattle.robinx.specs.Pieces.{pieces}
 use Rattle.robinx.specs.InstanceFile.{instance_of}
 use Rattle.robinx.specs.Walk as forms
 use Rattle.robinx.specs.declared.instance.TheConstants.{INSTANCE_LIMIT}

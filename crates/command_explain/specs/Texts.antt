@@ -1,7 +1,7 @@
 -- The text of a conflict.
 use Rattle.std.specs.Prelude.{◌≡◌, ℕ, List, [], ◌∷◌, ◌++◌, codes, decimal, None, Ok, if◌then◌else◌}
 use Rattle.std.specs.List.{flat_map, list_all}
-use Rattle.robinx_tags.specs.Pieces.{pieces}
+use Rattle.robinx.specs.Pieces.{pieces}
 use Rattle.robinx.specs.SolutionFile.{solution_of}
 use Rattle.robinx.specs.Texts.{solution_text}
 use Rattle.refutation.specs.Logs.{log_of}

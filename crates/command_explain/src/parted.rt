@@ -5,7 +5,7 @@ ghost use Rattle.robin_io.specs.Outside.{store_between};
 ghost use Rattle.league.specs.Sets.{IsAscending};
 ghost use Rattle.robinx.specs.InstanceFile.{instance_of};
 ghost use Rattle.robinx.specs.Texts as forms;
-ghost use Rattle.robinx_tags.specs.Pieces.{pieces};
+ghost use Rattle.robinx.specs.Pieces.{pieces};
 ghost use Rattle.answers.specs.SeenRefusal.{refused_with};
 ghost use Rattle.answers.specs.SeenReply.{answer_of, Answers};
 ghost use Rattle.answers.specs.declared.status.Status.TheVariants.{Yes};

@@ -6,7 +6,7 @@ ghost use Rattle.league.specs.Accepted.{IsAccepted, objective};
 ghost use Rattle.league.specs.Counts.{counts_of};
 ghost use Rattle.league.specs.Instance.{IsGame};
 ghost use Rattle.league.specs.declared.game.Game.{Game};
-ghost use Rattle.robinx_tags.specs.Pieces.{pieces};
+ghost use Rattle.robinx.specs.Pieces.{pieces};
 ghost use Rattle.robinx.specs.SolutionFile.{solution_of};
 ghost use Rattle.answers.specs.SeenReply.{answer_of, Answers};
 ghost use Rattle.answers.specs.Stages.{says};

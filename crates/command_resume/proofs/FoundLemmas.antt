@@ -11,7 +11,7 @@ use Rattle.league.specs.Counts.{counts_of, slot_count}
 use Rattle.league.specs.Instance.{Instance, IsInstance, IsTeamCount}
 use Rattle.league.specs.declared.game.Game.{Game}
 use Rattle.clause_search.proofs.TidyLemmas.{IsTidy-wider}
-use Rattle.robinx_tags.specs.Pieces.{pieces}
+use Rattle.robinx.specs.Pieces.{pieces}
 use Rattle.robinx.specs.SolutionFile.{solution_of}
 use Rattle.robinx.specs.Texts.{solution_text}
 use Rattle.robinx.proofs.SolutionLemmas.{solution-reads_back}

@@ -9,7 +9,7 @@ use Rattle.league.specs.Accepted as costs
 use Rattle.league.specs.Counts.{counts_of}
 use Rattle.league.specs.Instance.{Instance, IsGame, IsTeamCount}
 use Rattle.league.specs.declared.game.Game.{Game}
-use Rattle.robinx_tags.specs.Pieces.{pieces}
+use Rattle.robinx.specs.Pieces.{pieces}
 use Rattle.robinx.specs.SolutionFile.{solution_of}
 use Rattle.robinx.specs.Texts.{solution_text}
 use Rattle.robinx.proofs.CommentLemmas.{comment_line, is_plain_comment, is_plain_comment-decimal}

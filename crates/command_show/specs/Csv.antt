@@ -3,7 +3,7 @@ use Rattle.std.specs.Prelude.{ℕ, Bool, ◌==◌, if◌then◌else◌, List, []
 use Rattle.std.specs.List.{flat_map, list_any}
 use Rattle.std.specs.Str.{byte}
 use Rattle.league.specs.declared.game.Game.{Game}
-use Rattle.robinx_tags.specs.Bytes.{is_one_of}
+use Rattle.robinx.specs.Bytes.{is_one_of}
 use Rattle.robinx.specs.Names.{Names, team_name, slot_name}
 
 -- a name that a spreadsheet would take for a formula, with an apostrophe before it

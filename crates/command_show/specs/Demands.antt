@@ -5,7 +5,7 @@ use Rattle.std.specs.Bool.{beq}
 use Rattle.std.specs.List.{find, flat_map, range_with_len}
 use Rattle.std.specs.Option.{is_none}
 use Rattle.robin_io.specs.Outside.{Store}
-use Rattle.robinx_tags.specs.Pieces.{pieces}
+use Rattle.robinx.specs.Pieces.{pieces}
 use Rattle.league.specs.Instance.{Instance}
 use Rattle.league.specs.declared.class.Constraint.{Constraint}
 use Rattle.robinx.specs.InstanceFile.{instance_of}

@@ -3,7 +3,7 @@
 use Rattle.std.specs.Prelude.{◌≡◌, ℕ, ◌↔◌, Bool, if◌then◌else◌, List, ◌++◌, length, map, codes, IsTrue}
 use Rattle.std.specs.List.Sorted.{IsPermutation}
 use Rattle.robin_io.specs.Outside.{Store}
-use Rattle.robinx_tags.specs.Pieces.{pieces}
+use Rattle.robinx.specs.Pieces.{pieces}
 use Rattle.league.specs.Accepted.{IsAccepted, infeasibility, objective}
 use Rattle.league.specs.Counts.{counts_of, teams_of}
 use Rattle.league.specs.Instance.{Instance}

@@ -5,7 +5,7 @@ use Rattle.rows.specs.Rows.{Row}
 use Rattle.robin_watch.proofs.LimitLemmas.{kept-unstopped}
 use Rattle.robin_watch.specs.declared.budgets.Budgets.{Budgets}
 use Rattle.league.specs.Instance.{Instance}
-use Rattle.robinx_tags.specs.Pieces.{pieces}
+use Rattle.robinx.specs.Pieces.{pieces}
 use Rattle.robinx.specs.InstanceFile.{instance_of}
 use Rattle.robinx.specs.Walk.{Fault}
 use Rattle.robinx.specs.declared.instance.TheConstants.{INSTANCE_LIMIT}

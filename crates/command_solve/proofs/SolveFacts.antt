@@ -5,8 +5,8 @@ use Rattle.std.specs.Fmt.{digits}
 use Rattle.std.specs.List.{All}
 use Rattle.answers.specs.Stages.{NoneFails}
 use Rattle.robin_io.specs.Outside.{Store}
-use Rattle.robinx_tags.specs.Pieces.{pieces, pieces_from}
-use Rattle.robinx_tags.specs.Tags.{attributes_at}
+use Rattle.robinx.specs.Pieces.{pieces, pieces_from}
+use Rattle.robinx.specs.Tags.{attributes_at}
 use Rattle.robin_watch.proofs.LimitLemmas.{kept-unstopped}
 use Rattle.robin_watch.specs.declared.budgets.Budgets.{Budgets}
 use Rattle.league.specs.Accepted.{IsAccepted}
@@ -20,7 +20,7 @@ use Rattle.robinx.specs.InstanceFile.{instance_of}
 use Rattle.robinx.specs.SolutionFile.{solution_of}
 use Rattle.robinx.specs.Texts.{solution_text}
 use Rattle.robinx.specs.Walk.{walk}
-use Rattle.robinx_tags.specs.declared.fault.FormKind.TheVariants.{Truncated}
+use Rattle.robinx.specs.declared.tag_fault.FormKind.TheVariants.{Truncated}
 use Rattle.answers.specs.Reply.{Answer}
 use Rattle.answers.specs.declared.status.Status.TheVariants.{Yes, Refuted, Spent}
 use Rattle.encoding.specs.Encoding.{encoding_size, rows_of}

@@ -9,7 +9,7 @@ use Rattle.league.specs.Instance.{Instance, IsGame}
 use Rattle.league.specs.Order.{IsInOrder}
 use Rattle.league.specs.declared.game.Game.{Game}
 use Rattle.circle_method.specs.Circle.{double_games}
-use Rattle.robinx_tags.specs.Pieces.{pieces}
+use Rattle.robinx.specs.Pieces.{pieces}
 use Rattle.robinx.specs.InstanceFile.{instance_of}
 use Rattle.robinx.specs.SolutionFile.{solution_of}
 use Rattle.robinx.specs.Texts.{solution_text}

@@ -2,9 +2,9 @@
 use Rattle.std.proofs.Common.{◌≡◌, ℕ, ◌+◌, ◌∙◌, Bool, true, false, if◌then◌else◌, List, Option, Some, None, Result, Ok, Err, codes, ap, arith, inl, inr, refl, subst}
 use Rattle.std.specs.Prelude.{bytes_eq}
 use Rattle.robin_io.specs.Outside.{Store}
-use Rattle.robinx_tags.specs.Pieces.{pieces, pieces_from}
-use Rattle.robinx_tags.specs.Tags.{attributes_at}
-use Rattle.robinx_tags.specs.declared.fault.FormKind.TheVariants.{BadNesting}
+use Rattle.robinx.specs.Pieces.{pieces, pieces_from}
+use Rattle.robinx.specs.Tags.{attributes_at}
+use Rattle.robinx.specs.declared.tag_fault.FormKind.TheVariants.{BadNesting}
 use Rattle.league.specs.Accepted.{IsAccepted}
 use Rattle.league.specs.Counts.{counts_of}
 use Rattle.league.specs.Instance.{Instance}

@@ -1,7 +1,7 @@
 //! The stages of `validate`.
 ghost use Rattle.std.specs.Prelude.{◌≡◌, ◌+◌, ◌≤◌, ℕ, List, codes, length};
 ghost use Rattle.robin_io.specs.Outside.{store_between};
-ghost use Rattle.robinx_tags.specs.Pieces.{pieces};
+ghost use Rattle.robinx.specs.Pieces.{pieces};
 ghost use Rattle.robinx.specs.SolutionFile.{solution_of};
 ghost use Rattle.answers.specs.SeenReply.{Answers};
 ghost use Rattle.answers.specs.Stages.{says};

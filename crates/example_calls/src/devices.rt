@@ -1,4 +1,4 @@
-//! What the devices and numbers of `robin_io`, the reader of `robinx_tags` and the logs of `refutation` do.
+//! What the devices and numbers of `robin_io`, the reader of pieces of `robinx` and the logs of `refutation` do.
 //!
 //! - `log SIZE TEXT` reads a log in pieces of so many bytes, and writes it back or says its fault. `steps SIZE TEXT`
 //!   says only how many steps it has. `built` writes logs that are built step by step.

@@ -11,18 +11,18 @@ use Rattle.league.proofs.DoubleFour.{game}
 use Rattle.robin_watch.specs.declared.budgets.Budgets.{Budgets}
 use Rattle.command_line.specs.Words.{HasTeams}
 use Rattle.command_line.specs.Words.Command.{Check, Circle, Make, Trial}
-use Rattle.robinx_tags.specs.Next.{GivesNext}
-use Rattle.robinx_tags.specs.Pieces.{Ends, Faulty, Found, Last, Piece, Pieces, fault_after, none_but, onto}
-use Rattle.robinx_tags.specs.Pieces.{piece_at, pieces, pieces_from}
-use Rattle.robinx_tags.specs.Seen.{Finds, Gives, Stops}
-use Rattle.robinx_tags.specs.Tags.{attributes_at}
-use Rattle.robinx_tags.specs.declared.fault.FormKind.{FormKind}
-use Rattle.robinx_tags.specs.declared.fault.FormKind.TheVariants.{BadAttribute, BadTag, MissingElement, Truncated}
-use Rattle.robinx_tags.specs.declared.fault.Stop.TheVariants as stops
-use Rattle.robinx_tags.specs.declared.fault.TagFault.TheVariants as tags
-use Rattle.robinx_tags.specs.declared.tag.Tag.{Tag}
-use Rattle.robinx_tags.specs.declared.tag.TagKind.{TagKind}
-use Rattle.robinx_tags.specs.declared.tag.TagKind.TheVariants.{End, Start, Text}
+use Rattle.robinx.specs.Next.{GivesNext}
+use Rattle.robinx.specs.Pieces.{Ends, Faulty, Found, Last, Piece, Pieces, fault_after, none_but, onto}
+use Rattle.robinx.specs.Pieces.{piece_at, pieces, pieces_from}
+use Rattle.robinx.specs.SeenPieces.{Finds, Gives, Stops}
+use Rattle.robinx.specs.Tags.{attributes_at}
+use Rattle.robinx.specs.declared.tag_fault.FormKind.{FormKind}
+use Rattle.robinx.specs.declared.tag_fault.FormKind.TheVariants.{BadAttribute, BadTag, MissingElement, Truncated}
+use Rattle.robinx.specs.declared.tag_fault.Stop.TheVariants as stops
+use Rattle.robinx.specs.declared.tag_fault.TagFault.TheVariants as tags
+use Rattle.robinx.specs.declared.tag.Tag.{Tag}
+use Rattle.robinx.specs.declared.tag.TagKind.{TagKind}
+use Rattle.robinx.specs.declared.tag.TagKind.TheVariants.{End, Start, Text}
 use Rattle.robinx.specs.Walk.{Fault}
 use Rattle.robinx.specs.Answers.{Changes, Says, Walks}
 use Rattle.robinx.specs.declared.fault.ReadFault.{ReadFault}

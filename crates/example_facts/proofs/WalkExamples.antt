@@ -33,8 +33,8 @@ use Rattle.descent.specs.Trail.{IsClimb, IsTrail}
 use Rattle.descent.specs.declared.score.Score.{Score}
 use Rattle.walk.specs.Walked.{IsSeasonOf, league_score}
 use Rattle.walk.specs.declared.best.Best.{Best}
-use Rattle.robinx_tags.specs.Pieces.{pieces, pieces_from}
-use Rattle.robinx_tags.specs.Tags.{attributes_at}
+use Rattle.robinx.specs.Pieces.{pieces, pieces_from}
+use Rattle.robinx.specs.Tags.{attributes_at}
 use Rattle.robinx.specs.InstanceFile.{instance_of}
 use Rattle.robinx.specs.Walk.{walk}
 use Rattle.robinx.specs.declared.instance.TheConstants.{INSTANCE_LIMIT}

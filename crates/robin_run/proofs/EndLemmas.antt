@@ -8,7 +8,7 @@ use Rattle.rows.specs.Rows.{Row}
 use Rattle.rows.specs.Values.{assigned}
 use Rattle.league.specs.Instance.{Instance}
 use Rattle.league.specs.declared.game.Game.{Game}
-use Rattle.robinx_tags.specs.Pieces.{pieces}
+use Rattle.robinx.specs.Pieces.{pieces}
 use Rattle.robinx.specs.InstanceFile.{instance_of}
 use Rattle.robinx.specs.SolutionFile.{solution_of}
 use Rattle.robinx.specs.Walk.{Fault}

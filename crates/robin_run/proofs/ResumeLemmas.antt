@@ -5,7 +5,7 @@ use Rattle.robin_io.specs.Outside.{Output}
 use Rattle.robin_watch.specs.Limits.{IsKeptTo}
 use Rattle.league.specs.Instance.{Instance}
 use Rattle.league.specs.declared.game.Game.{Game}
-use Rattle.robinx_tags.specs.Pieces.{pieces}
+use Rattle.robinx.specs.Pieces.{pieces}
 use Rattle.robinx.specs.SolutionFile.{solution_of}
 use Rattle.command_line.specs.Words.Command.{Audit, Resume, ResumeNear}
 use Rattle.answers.specs.Reply.{Answer}

@@ -1,6 +1,6 @@
 -- Worked runs, so that a wrong definition of what a run may answer does not check.
 use Rattle.std.proofs.Common.{◌≡◌, ◌∷◌, [], true, false, Some, None, codes, refl}
-use Rattle.robinx_tags.specs.declared.fault.FormKind.TheVariants.{BadNesting}
+use Rattle.robinx.specs.declared.tag_fault.FormKind.TheVariants.{BadNesting}
 use Rattle.answers.specs.Reply.{Answer, log_malformed, malformed, refused_words}
 use Rattle.answers.specs.declared.status.Status.TheVariants.{Yes, No, Words, File, Refuted, Spent, ReadFault, WriteFault}
 use Rattle.answers.specs.declared.status.Status.TheVariants.{Memory, Better}

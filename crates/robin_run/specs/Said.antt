@@ -2,7 +2,7 @@
 use Rattle.std.specs.Prelude.{◌≡◌, ℕ, List, Some, Ok}
 use Rattle.robin_io.specs.Outside.{Store}
 use Rattle.league.specs.Instance.{Instance}
-use Rattle.robinx_tags.specs.Pieces.{pieces}
+use Rattle.robinx.specs.Pieces.{pieces}
 use Rattle.robinx.specs.InstanceFile.{instance_of}
 
 -- the bytes of this file are known, and say this league

@@ -1,7 +1,7 @@
 -- What `show` promises: the season of one file is shown with the names that the other gives its league, and judged by it;
 -- or it is said in words, with these names, what the league of a file demands.
 use Rattle.std.specs.Prelude.{◌≡◌, ℕ, ◌≤◌, List, [], ◌∷◌, length, Ok, Option, Some}
-use Rattle.robinx_tags.specs.Pieces.{pieces}
+use Rattle.robinx.specs.Pieces.{pieces}
 use Rattle.league.specs.Instance.{Instance}
 use Rattle.league.specs.declared.game.Game.{Game}
 use Rattle.robinx.specs.Names.{Names}

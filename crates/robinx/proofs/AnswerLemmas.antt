@@ -1,7 +1,7 @@
 -- What the answer of the reader says of a file.
 use Rattle.std.proofs.Common.{◌≡◌, ℕ, Ok, Err}
 use Rattle.std.specs.Prelude.{Result, IfErr, IfOk}
-use Rattle.robinx_tags.specs.Pieces.{Pieces}
+use Rattle.robinx.specs.Pieces.{Pieces}
 use Rattle.robinx.specs.InstanceFile.{instance_of}
 use Rattle.league.specs.Instance.{Instance}
 use Rattle.robinx.specs.Answers.{Says}

@@ -6,9 +6,9 @@ use Prim.Native.String.{String}
 use Rattle.std.proofs.Common.{◌≡◌, ◌+◌, true, false, List, [], ◌∷◌, ◌++◌, map, take, drop, length, Option, Some, None, Ok, Err, refl}
 use Rattle.std.specs.Prelude.{codes}
 use Rattle.std.specs.List.{flat_map, range_with_len}
-use Rattle.robinx_tags.specs.Tags.{Attribute}
-use Rattle.robinx_tags.specs.declared.fault.FormKind.{FormKind}
-use Rattle.robinx_tags.specs.declared.fault.FormKind.TheVariants.{MissingAttribute, BadNumber, NumberTooLarge, UnknownTeam, UnknownSlot, SameTeam, BadChoice}
+use Rattle.robinx.specs.Tags.{Attribute}
+use Rattle.robinx.specs.declared.tag_fault.FormKind.{FormKind}
+use Rattle.robinx.specs.declared.tag_fault.FormKind.TheVariants.{MissingAttribute, BadNumber, NumberTooLarge, UnknownTeam, UnknownSlot, SameTeam, BadChoice}
 use Rattle.robinx.specs.Values.{Reading, above_zero}
 use Rattle.robinx.specs.Classes.{constraint_of}
 use Rattle.robinx.specs.Words.{home_or_away, side, span, hardness, game_mode}

@@ -6,9 +6,9 @@ use Rattle.std.specs.List.{list_all}
 use Rattle.std.proofs.lemmas.Bool.{and_from, not-true}
 use Rattle.std.proofs.lemmas.Bool.Decides.{nat_tests}
 use Rattle.std.proofs.lemmas.List.Folds.{list_all-append}
-use Rattle.robinx_tags.specs.Pieces.{Found, after_text, begins, piece_at}
-use Rattle.robinx_tags.specs.declared.fault.FormKind.TheVariants.{Truncated}
-use Rattle.robinx_tags.proofs.TextLemmas.{after_text-later}
+use Rattle.robinx.specs.Pieces.{Found, after_text, begins, piece_at}
+use Rattle.robinx.specs.declared.tag_fault.FormKind.TheVariants.{Truncated}
+use Rattle.robinx.proofs.PieceTexts.{after_text-later}
 use Rattle.robinx.specs.Walk.{Meaning, Position}
 use Rattle.robinx.proofs.TagLemmas.{and_parts}
 use Rattle.robinx.proofs.NumberTexts.{decimal-all}

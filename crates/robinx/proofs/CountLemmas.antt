@@ -3,10 +3,10 @@ use Rattle.std.proofs.Common.{◌≡◌, ℕ, List, [], ◌∷◌, Option, Some,
 use Rattle.std.specs.Prelude.{codes, slice_set}
 use Rattle.std.proofs.Math.ListN.{length-set}
 use Rattle.std.proofs.lemmas.List.{length-replicate}
-use Rattle.robinx_tags.specs.Fronts.{◌>>=◌, check}
-use Rattle.robinx_tags.specs.Tags.{Attribute}
-use Rattle.robinx_tags.specs.Pieces.{Piece, Pieces}
-use Rattle.robinx_tags.specs.declared.fault.FormKind.TheVariants.{BadNesting, Truncated}
+use Rattle.robinx.specs.Fronts.{◌>>=◌, check}
+use Rattle.robinx.specs.Tags.{Attribute}
+use Rattle.robinx.specs.Pieces.{Piece, Pieces}
+use Rattle.robinx.specs.declared.tag_fault.FormKind.TheVariants.{BadNesting, Truncated}
 use Rattle.robinx.specs.Walk as walk
 use Rattle.robinx.specs.Walk.{Open, Position, with_seen}
 use Rattle.robinx.specs.Values.{required, number}

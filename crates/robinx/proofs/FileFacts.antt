@@ -1,9 +1,9 @@
 -- What whole files say, so that a wrong definition does not check.
 use Rattle.std.proofs.Common.{◌≡◌, ℕ, true, false, List, [], ◌∷◌, ◌++◌, take, refl}
 use Rattle.std.specs.Prelude.{Ok, Err, codes}
-use Rattle.robinx_tags.specs.Tags.{attributes_at}
-use Rattle.robinx_tags.specs.Pieces.{pieces, pieces_from}
-use Rattle.robinx_tags.specs.declared.fault.FormKind.TheVariants.{Truncated, WrongCounts, UnsupportedClass, UnknownSlot, SameTeam}
+use Rattle.robinx.specs.Tags.{attributes_at}
+use Rattle.robinx.specs.Pieces.{pieces, pieces_from}
+use Rattle.robinx.specs.declared.tag_fault.FormKind.TheVariants.{Truncated, WrongCounts, UnsupportedClass, UnknownSlot, SameTeam}
 use Rattle.robinx.specs.Walk.{walk}
 use Rattle.robinx.specs.InstanceFile.{instance_of}
 use Rattle.robinx.specs.SolutionFile.{solution_of}

@@ -1,10 +1,10 @@
 -- The games that were read are those of the league that they were read for.
 use Rattle.std.proofs.Common.{◌≡◌, ℕ, List, [], ◌∷◌, ◌++◌, length, Option, Some, None, Ok, refl, sym, ap, ◌∙◌}
 use Rattle.std.specs.Prelude.{nat_lt}
-use Rattle.robinx_tags.specs.Fronts.{◌>>=◌, check}
-use Rattle.robinx_tags.specs.Tags.{Attribute}
-use Rattle.robinx_tags.specs.Pieces.{Piece, Pieces}
-use Rattle.robinx_tags.specs.declared.fault.FormKind.TheVariants.{BadNesting, TooMany, Truncated}
+use Rattle.robinx.specs.Fronts.{◌>>=◌, check}
+use Rattle.robinx.specs.Tags.{Attribute}
+use Rattle.robinx.specs.Pieces.{Piece, Pieces}
+use Rattle.robinx.specs.declared.tag_fault.FormKind.TheVariants.{BadNesting, TooMany, Truncated}
 use Rattle.robinx.specs.Walk as walk
 use Rattle.robinx.specs.Walk.{Open, Position, with_seen}
 use Rattle.robinx.specs.SolutionFile.{Games, starts, solution_meaning, game_of}

@@ -11,8 +11,8 @@ use Rattle.league.specs.Names.{name_of, name_text}
 use Rattle.league.specs.declared.class.Class.{Class}
 use Rattle.league.specs.declared.class.Class.TheVariants.{Ca1, Ca2, Ca3, Ca4, Ga1, Br1, Br2, Fa2, Se1}
 use Rattle.league.specs.declared.class.Constraint.{Constraint}
-use Rattle.robinx_tags.specs.declared.tag.TagKind.TheVariants.{Start, End, Empty}
-use Rattle.robinx_tags.specs.Tags.{Attribute}
+use Rattle.robinx.specs.declared.tag.TagKind.TheVariants.{Start, End, Empty}
+use Rattle.robinx.specs.Tags.{Attribute}
 use Rattle.robinx.specs.Texts.{group_of, constraint_attributes, constraint_line, constraints_after, opens, closes, between}
 use Rattle.robinx.specs.Elements as elements
 use Rattle.robinx.specs.Walk.{Open, Position, at_piece}

@@ -9,11 +9,11 @@ use Rattle.league.specs.Counts.{teams_of, slots_of, slot_count}
 use Rattle.league.specs.Instance.{Instance, IsInstance, IsTeamCount, is_team_count}
 use Rattle.league.specs.Sets.{is_in}
 use Rattle.league.specs.declared.class.Constraint.{Constraint}
-use Rattle.robinx_tags.specs.Fronts.{◌>>=◌}
-use Rattle.robinx_tags.specs.Tags.{attributes_at}
-use Rattle.robinx_tags.specs.Pieces.{pieces, pieces_from}
-use Rattle.robinx_tags.specs.declared.tag.TagKind.TheVariants.{Empty}
-use Rattle.robinx_tags.specs.Tags.{Attribute}
+use Rattle.robinx.specs.Fronts.{◌>>=◌}
+use Rattle.robinx.specs.Tags.{attributes_at}
+use Rattle.robinx.specs.Pieces.{pieces, pieces_from}
+use Rattle.robinx.specs.declared.tag.TagKind.TheVariants.{Empty}
+use Rattle.robinx.specs.Tags.{Attribute}
 use Rattle.robinx.specs.Attributes.{count, word}
 use Rattle.robinx.specs.Texts.{mode_word, team_line, slot_line, constraints_after, instance_text}
 use Rattle.robinx.specs.Values.{number}

@@ -2,8 +2,8 @@
 use Rattle.std.proofs.Common.{◌≡◌, ℕ, suc, ◌+◌, ◌<◌, Bool, true, false, List, [], ◌∷◌, length, take, drop, eqb, Ok, Err, refl, ap, arith}
 use Rattle.std.specs.List.{before_first, after_first, position_or_len}
 use Rattle.std.specs.declared.cmp.Ordering.{Ordering}
-use Rattle.robinx_tags.specs.Fronts.{◌>>=◌}
-use Rattle.robinx_tags.specs.declared.fault.FormKind.{FormKind}
+use Rattle.robinx.specs.Fronts.{◌>>=◌}
+use Rattle.robinx.specs.declared.tag_fault.FormKind.{FormKind}
 use Rattle.league.specs.Sets.{with_item}
 use Rattle.robinx.specs.Values.{Reading, onto_item, items_of, each}
 use Rattle.robinx.specs.Gathered.{gathered}

@@ -1,12 +1,12 @@
 -- What stays so along a walk, from its first piece to the file's end.
 use Rattle.std.proofs.Common.{◌≡◌, ℕ, Bool, true, false, List, [], ◌∷◌, ◌++◌, Option, Some, None, Ok, Err, refl, ap, subst}
 use Rattle.std.specs.Prelude.{Result, if◌then◌else◌, bytes_eq}
-use Rattle.robinx_tags.specs.Fronts.{◌>>=◌, check, trimmed}
-use Rattle.robinx_tags.specs.Pieces.{Piece, Last, Ends, Faulty}
-use Rattle.robinx_tags.specs.declared.tag.TagKind.{TagKind}
-use Rattle.robinx_tags.specs.declared.tag.TagKind.TheVariants.{Start, End, Empty, Text}
-use Rattle.robinx_tags.specs.declared.fault.FormKind.{FormKind}
-use Rattle.robinx_tags.specs.declared.fault.FormKind.TheVariants.{BadNesting, MissingElement}
+use Rattle.robinx.specs.Fronts.{◌>>=◌, check, trimmed}
+use Rattle.robinx.specs.Pieces.{Piece, Last, Ends, Faulty}
+use Rattle.robinx.specs.declared.tag.TagKind.{TagKind}
+use Rattle.robinx.specs.declared.tag.TagKind.TheVariants.{Start, End, Empty, Text}
+use Rattle.robinx.specs.declared.tag_fault.FormKind.{FormKind}
+use Rattle.robinx.specs.declared.tag_fault.FormKind.TheVariants.{BadNesting, MissingElement}
 use Rattle.robinx.specs.Elements.{element_name, has_value}
 use Rattle.robinx.specs.Walk.{Meaning, Open, Position, is_complete, on_line, end_line, closed, begun, start_in, ended, end_in, text_in, at_start, at_end, at_piece, at_file_end, walk}
 

@@ -10,12 +10,12 @@ use Rattle.league.specs.Sets.{ascends, is_in, pair_cmp}
 use Rattle.league.specs.Counts.{teams_of, slot_count}
 use Rattle.league.specs.Meetings.{others, meetings_of}
 use Rattle.league.specs.Instance.{are_teams, are_slots, is_meeting, are_meetings}
-use Rattle.robinx_tags.specs.Fronts.{◌>>=◌}
-use Rattle.robinx_tags.specs.declared.fault.FormKind.TheVariants.{UnknownTeam, UnknownSlot}
+use Rattle.robinx.specs.Fronts.{◌>>=◌}
+use Rattle.robinx.specs.declared.tag_fault.FormKind.TheVariants.{UnknownTeam, UnknownSlot}
 use Rattle.robinx.specs.Values.{Reading, team, slot, meeting, teams, slots, meetings, each, items_of}
 use Rattle.robinx.specs.Gathered.{gathered}
-use Rattle.robinx_tags.specs.Seen.{Gives}
-use Rattle.robinx_tags.specs.declared.fault.Stop.{Stop}
+use Rattle.robinx.specs.SeenPieces.{Gives}
+use Rattle.robinx.specs.declared.tag_fault.Stop.{Stop}
 use Rattle.robinx.proofs.SetLemmas.{Every, Among, Among-left, Among-right, Every-map, Every-append, Every-filter, every, all_true, IsOrder, Rises, Rises-append, filter-rises, ascends-rises, with_items-all}
 use Rattle.robinx.proofs.ValueLemmas.{id_below, each-every, IsMeeting, meeting-is}
 

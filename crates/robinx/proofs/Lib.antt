@@ -1,3 +1,8 @@
+-- Lemmas on the pieces of a file:
+pub mod ByteSearch
+pub mod AttributeLemmas
+pub mod PieceTexts
+pub mod PieceLemmas
 -- Lemmas on values and lists:
 pub mod SearchLemmas
 pub mod SetLemmas
@@ -37,6 +42,8 @@ pub mod SolutionLemmas
 pub mod InstanceLemmas
 pub mod PartLemmas
 -- Worked examples, so that a wrong definition does not check:
+mod PieceFacts
+mod TrimFacts
 mod FileTexts
 mod TextFacts
 mod FileFacts

@@ -1,7 +1,7 @@
 -- The limits of a file, worked out by hand, so that a wrong limit does not check.
 use Rattle.std.proofs.Common.{◌≡◌, ℕ, zero, suc, Bool, true, false, List, [], ◌∷◌, Err, refl}
 use Rattle.std.specs.List.{range_with_len}
-use Rattle.robinx_tags.specs.declared.fault.FormKind.TheVariants.{TooMany, MissingAttribute}
+use Rattle.robinx.specs.declared.tag_fault.FormKind.TheVariants.{TooMany, MissingAttribute}
 use Rattle.robinx.specs.InstanceFile.{Draft, nothing, with_constraint, is_season}
 use Rattle.robinx.specs.SolutionFile.{Games, with_game}
 use Rattle.league.specs.declared.class.ClassName.TheVariants.{Se1}

@@ -18,7 +18,7 @@ use Rattle.league.specs.Counts.{slot_count}
 use Rattle.league.specs.Instance.{are_teams, are_slots, is_meeting, are_meetings}
 use Rattle.league.proofs.AscendingLemmas.{IsAscending-ascends, first_true, second_true}
 use Rattle.league.proofs.FitLemmas.{are_teams-below, are_teams-ascending, are_slots-below, are_slots-ascending}
-use Rattle.robinx_tags.specs.declared.fault.FormKind.TheVariants.{UnknownTeam, UnknownSlot}
+use Rattle.robinx.specs.declared.tag_fault.FormKind.TheVariants.{UnknownTeam, UnknownSlot}
 use Rattle.league.proofs.SetLemmas.{filter-all, filter-none}
 use Rattle.robinx.specs.Gathered.{with_items, gathered}
 use Rattle.robinx.specs.Values.{Reading, items_of, onto_item, each, team, slot, teams, slots, meeting, meetings}

@@ -7,7 +7,7 @@ use Rattle.std.specs.Str.Parse.{digits_value}
 use Rattle.std.proofs.lemmas.Bool.Decides.{nat_tests}
 use Rattle.robin_io.specs.Numbers.{is_number}
 use Rattle.robin_io.proofs.NumberLemmas.{is_number-decimal, reads-decimal}
-use Rattle.robinx_tags.specs.declared.fault.FormKind.{FormKind}
+use Rattle.robinx.specs.declared.tag_fault.FormKind.{FormKind}
 use Rattle.robinx.specs.Values.{number, id}
 use Rattle.robinx.proofs.TagLemmas.{is_plain_value}
 

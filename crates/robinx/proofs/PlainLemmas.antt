@@ -12,8 +12,8 @@ use Rattle.std.proofs.lemmas.List.{append-nil, length-append, length-take, take_
 use Rattle.std.proofs.lemmas.List.Elements.{All-append, All-take, All-map}
 use Rattle.std.proofs.lemmas.Str.{chars-encodes, encodes-append, scalars-chars}
 use Rattle.league.proofs.AscendingLemmas.{first_true, second_true}
-use Rattle.robinx_tags.specs.Bytes.{is_white}
-use Rattle.robinx_tags.specs.Fronts.{trimmed}
+use Rattle.robinx.specs.Bytes.{is_white}
+use Rattle.robinx.specs.Fronts.{trimmed}
 use Rattle.robinx.specs.Plain.{IsPlain, characters_of, expanded, is_unprinted, plain, printed, shortened}
 
 -- ---- a character

@@ -2,9 +2,9 @@
 use Rattle.std.proofs.Common.{◌≡◌, ℕ, ◌+◌, Bool, true, false, List, [], take, refl}
 use Rattle.std.specs.Prelude.{◌==◌, Result, Ok, Err}
 use Rattle.std.specs.List.{list_all, range_with_len, count_by}
-use Rattle.robinx_tags.specs.Tags.{attributes_at}
-use Rattle.robinx_tags.specs.Pieces.{pieces, pieces_from}
-use Rattle.robinx_tags.specs.declared.fault.FormKind.TheVariants.{Truncated}
+use Rattle.robinx.specs.Tags.{attributes_at}
+use Rattle.robinx.specs.Pieces.{pieces, pieces_from}
+use Rattle.robinx.specs.declared.tag_fault.FormKind.TheVariants.{Truncated}
 use Rattle.robinx.specs.Walk.{Fault, walk}
 use Rattle.robinx.specs.InstanceFile.{instance_of}
 use Rattle.robinx.proofs.FileTexts.{text, replaced, league_lines}

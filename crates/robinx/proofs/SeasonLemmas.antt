@@ -5,11 +5,11 @@ use Rattle.std.specs.List.{list_any, list_all}
 use Rattle.std.proofs.lemmas.Bool.Decides.{nat_tests}
 use Rattle.std.proofs.lemmas.List.Folds.{list_any-append}
 use Rattle.std.proofs.lemmas.Slice.Eq.{bytes_eq-Decides}
-use Rattle.robinx_tags.specs.Fronts.{◌>>=◌, check, trimmed}
-use Rattle.robinx_tags.specs.Tags.{Attribute}
-use Rattle.robinx_tags.specs.Pieces.{Piece, Pieces}
-use Rattle.robinx_tags.specs.declared.fault.FormKind.{FormKind}
-use Rattle.robinx_tags.specs.declared.fault.FormKind.TheVariants.{BadNesting, MissingElement, TooMany, Truncated, WrongCounts}
+use Rattle.robinx.specs.Fronts.{◌>>=◌, check, trimmed}
+use Rattle.robinx.specs.Tags.{Attribute}
+use Rattle.robinx.specs.Pieces.{Piece, Pieces}
+use Rattle.robinx.specs.declared.tag_fault.FormKind.{FormKind}
+use Rattle.robinx.specs.declared.tag_fault.FormKind.TheVariants.{BadNesting, MissingElement, TooMany, Truncated, WrongCounts}
 use Rattle.robinx.specs.Elements.{element_name, inside, unlisted, repeated, once}
 use Rattle.robinx.specs.Walk as walk
 use Rattle.robinx.specs.Walk.{Open, Position, is_met, is_complete, row_of, begins_by, passed_over, with_seen}

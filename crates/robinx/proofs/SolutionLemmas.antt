@@ -9,12 +9,12 @@ use Rattle.std.proofs.lemmas.List.Elements.{All-tail, All-head}
 use Rattle.league.specs.Counts.{slot_count}
 use Rattle.league.specs.Instance.{IsGame}
 use Rattle.league.specs.declared.game.Game.{Game}
-use Rattle.robinx_tags.specs.Fronts.{◌>>=◌}
-use Rattle.robinx_tags.specs.Tags.{attributes_at}
-use Rattle.robinx_tags.specs.Pieces.{pieces, pieces_from}
-use Rattle.robinx_tags.specs.declared.tag.TagKind.TheVariants.{Empty, End}
-use Rattle.robinx_tags.specs.declared.fault.FormKind.TheVariants.{UnknownTeam, UnknownSlot}
-use Rattle.robinx_tags.specs.Tags.{Attribute}
+use Rattle.robinx.specs.Fronts.{◌>>=◌}
+use Rattle.robinx.specs.Tags.{attributes_at}
+use Rattle.robinx.specs.Pieces.{pieces, pieces_from}
+use Rattle.robinx.specs.declared.tag.TagKind.TheVariants.{Empty, End}
+use Rattle.robinx.specs.declared.tag_fault.FormKind.TheVariants.{UnknownTeam, UnknownSlot}
+use Rattle.robinx.specs.Tags.{Attribute}
 use Rattle.robinx.specs.Attributes.{count, tag_line}
 use Rattle.robinx.specs.Texts.{game_line, score_text, solution_text}
 use Rattle.robinx.specs.Values.{team, slot}

@@ -4,14 +4,14 @@ use Rattle.std.specs.Prelude.{Result}
 use Rattle.std.specs.List.{list_all, flat_map}
 use Rattle.std.proofs.lemmas.Bool.{false≢true}
 use Rattle.std.proofs.lemmas.List.{take_at, drop_at}
-use Rattle.robinx_tags.specs.Bytes.{is_name_byte}
-use Rattle.robinx_tags.specs.Fronts.{◌>>=◌, until}
-use Rattle.robinx_tags.specs.Tags.{end_at}
-use Rattle.robinx_tags.specs.Pieces.{Piece, Pieces, Found, with_piece, onto, piece_at, pieces_from}
-use Rattle.robinx_tags.specs.declared.tag.TagKind.{TagKind}
-use Rattle.robinx_tags.specs.declared.tag.TagKind.TheVariants.{Start, End, Empty, Text}
-use Rattle.robinx_tags.proofs.PieceLemmas.{line_ends, pieces_from-found}
-use Rattle.robinx_tags.specs.Tags.{Attribute}
+use Rattle.robinx.specs.Bytes.{is_name_byte}
+use Rattle.robinx.specs.Fronts.{◌>>=◌, until}
+use Rattle.robinx.specs.Tags.{end_at}
+use Rattle.robinx.specs.Pieces.{Piece, Pieces, Found, with_piece, onto, piece_at, pieces_from}
+use Rattle.robinx.specs.declared.tag.TagKind.{TagKind}
+use Rattle.robinx.specs.declared.tag.TagKind.TheVariants.{Start, End, Empty, Text}
+use Rattle.robinx.proofs.PieceLemmas.{line_ends, pieces_from-found}
+use Rattle.robinx.specs.Tags.{Attribute}
 use Rattle.robinx.specs.Attributes.{attribute_text, tag_line}
 use Rattle.robinx.specs.Elements.{has_value}
 use Rattle.robinx.specs.Walk.{Meaning, Position, Fault, walk, at_piece, text_in}

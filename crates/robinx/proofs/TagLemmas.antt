@@ -4,11 +4,11 @@ use Rattle.std.specs.List.{list_all, list_any, position_or_len, flat_map}
 use Rattle.std.proofs.lemmas.Bool.{false≢true, not-true}
 use Rattle.std.proofs.lemmas.List.{take_at, drop_at, append-nil}
 use Rattle.league.proofs.AscendingLemmas.{first_true, second_true}
-use Rattle.robinx_tags.specs.Bytes.{is_white, is_name_byte, is_name_start}
-use Rattle.robinx_tags.specs.Fronts.{until}
-use Rattle.robinx_tags.specs.Tags.{name_at, value_to, has_name, attribute_at, end_at, attributes_at, start_tag}
-use Rattle.robinx_tags.specs.declared.tag.TagKind.{TagKind}
-use Rattle.robinx_tags.specs.Tags.{Attribute}
+use Rattle.robinx.specs.Bytes.{is_white, is_name_byte, is_name_start}
+use Rattle.robinx.specs.Fronts.{until}
+use Rattle.robinx.specs.Tags.{name_at, value_to, has_name, attribute_at, end_at, attributes_at, start_tag}
+use Rattle.robinx.specs.declared.tag.TagKind.{TagKind}
+use Rattle.robinx.specs.Tags.{Attribute}
 use Rattle.robinx.specs.Attributes.{attribute_text}
 
 -- both parts of a test that passes

@@ -1,7 +1,7 @@
 -- Worked examples of values, so that a wrong definition of a list or a number does not check.
 use Rattle.std.proofs.Common.{◌≡◌, [], ◌∷◌, refl}
 use Rattle.std.specs.Prelude.{Ok, Err, codes}
-use Rattle.robinx_tags.specs.declared.fault.FormKind.TheVariants.{BadNumber, NumberTooLarge, UnknownTeam, UnknownSlot, SameTeam}
+use Rattle.robinx.specs.declared.tag_fault.FormKind.TheVariants.{BadNumber, NumberTooLarge, UnknownTeam, UnknownSlot, SameTeam}
 use Rattle.robinx.specs.Values.{number, teams, slots, meetings}
 
 pub number-zeros : number (codes "0010") ≡ Ok 10

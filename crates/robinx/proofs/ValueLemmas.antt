@@ -3,9 +3,9 @@ use Rattle.std.proofs.Common.{◌≡◌, ◌≢◌, ℕ, ◌<◌, Bool, true, fa
 use Rattle.std.specs.Prelude.{nat_lt, ◌==◌}
 use Rattle.std.specs.List.{count_by, before_first, after_first}
 use Rattle.std.proofs.lemmas.Bool.Decides.{nat_tests}
-use Rattle.robinx_tags.specs.Fronts.{◌>>=◌, check}
-use Rattle.robinx_tags.specs.declared.fault.FormKind.{FormKind}
-use Rattle.robinx_tags.specs.declared.fault.FormKind.TheVariants.{BadNumber, UnknownTeam, SameTeam}
+use Rattle.robinx.specs.Fronts.{◌>>=◌, check}
+use Rattle.robinx.specs.declared.tag_fault.FormKind.{FormKind}
+use Rattle.robinx.specs.declared.tag_fault.FormKind.TheVariants.{BadNumber, UnknownTeam, SameTeam}
 use Rattle.robinx.specs.Values.{Reading, number, id, each, distinct, meeting, team}
 use Rattle.robinx.proofs.SetLemmas.{Every}
 

@@ -3,9 +3,9 @@
 use Prim.Native.String.{String}
 use Rattle.std.proofs.Common.{◌≡◌, ℕ, ◌+◌, ◌-◌, true, false, List, [], ◌∷◌, ◌++◌, take, drop, refl}
 use Rattle.std.specs.Prelude.{Result, Ok, Err, codes}
-use Rattle.robinx_tags.specs.Tags.{attributes_at}
-use Rattle.robinx_tags.specs.Pieces.{pieces, pieces_from}
-use Rattle.robinx_tags.specs.declared.fault.FormKind.TheVariants.{BadAttribute, BadChoice, BadNesting, BadNumber, BadTag, MissingAttribute, MissingElement, NumberTooLarge, RepeatedAttribute, RepeatedElement, SameTeam, Truncated, UnknownSlot, UnknownTeam, UnsupportedClass, WrongCounts}
+use Rattle.robinx.specs.Tags.{attributes_at}
+use Rattle.robinx.specs.Pieces.{pieces, pieces_from}
+use Rattle.robinx.specs.declared.tag_fault.FormKind.TheVariants.{BadAttribute, BadChoice, BadNesting, BadNumber, BadTag, MissingAttribute, MissingElement, NumberTooLarge, RepeatedAttribute, RepeatedElement, SameTeam, Truncated, UnknownSlot, UnknownTeam, UnsupportedClass, WrongCounts}
 use Rattle.robinx.specs.Walk.{Fault, walk}
 use Rattle.robinx.specs.InstanceFile.{instance_of}
 use Rattle.robinx.specs.SolutionFile.{solution_of}

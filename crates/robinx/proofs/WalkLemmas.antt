@@ -1,14 +1,14 @@
 -- The walk, piece by piece, as a loop takes it.
 use Rattle.std.proofs.Common.{◌≡◌, ℕ, ◌<◌, true, false, List, [], ◌∷◌, length, Option, Some, None, Ok, Err, refl, sym, ap, ◌∙◌, subst, arith}
 use Rattle.std.specs.Prelude.{Result}
-use Rattle.robinx_tags.specs.Fronts.{◌>>=◌}
-use Rattle.robinx_tags.specs.Pieces.{Piece, Pieces, Ends, none_but, onto}
-use Rattle.robinx_tags.specs.Next.{GivesNext}
-use Rattle.robinx_tags.specs.SeenTag.{view_of}
-use Rattle.robinx_tags.specs.declared.fault.FormKind.TheVariants.{Truncated}
-use Rattle.robinx_tags.specs.declared.tag.Tag.{Tag}
-use Rattle.robinx_tags.specs.declared.fault.TagFault.{TagFault}
-use Rattle.robinx_tags.specs.declared.fault.TagFault.TheVariants as tags
+use Rattle.robinx.specs.Fronts.{◌>>=◌}
+use Rattle.robinx.specs.Pieces.{Piece, Pieces, Ends, none_but, onto}
+use Rattle.robinx.specs.Next.{GivesNext}
+use Rattle.robinx.specs.SeenTag.{view_of}
+use Rattle.robinx.specs.declared.tag_fault.FormKind.TheVariants.{Truncated}
+use Rattle.robinx.specs.declared.tag.Tag.{Tag}
+use Rattle.robinx.specs.declared.tag_fault.TagFault.{TagFault}
+use Rattle.robinx.specs.declared.tag_fault.TagFault.TheVariants as tags
 use Rattle.robinx.specs.Walk.{Meaning, Open, Position, Fault, walk, at_piece, at_file_end, is_complete}
 use Rattle.robinx.specs.Answers.{Walks}
 use Rattle.robinx.specs.Tagged.{of_tags}

@@ -2,13 +2,13 @@
 -- End that the one takes.
 use Rattle.std.proofs.Common.{◌≡◌, ℕ, Bool, true, false, List, [], ◌∷◌, ◌++◌, Option, Some, None, Ok, Err, refl, ap, ◌∙◌}
 use Rattle.std.specs.Prelude.{Result, IfErr, if◌then◌else◌, bytes_eq, codes, slice_set}
-use Rattle.robinx_tags.specs.Fronts.{◌>>=◌, check, trimmed}
-use Rattle.robinx_tags.specs.Tags.{Attribute}
-use Rattle.robinx_tags.specs.Pieces.{Piece, Pieces, Last, Ends, Faulty}
-use Rattle.robinx_tags.specs.declared.tag.TagKind.{TagKind}
-use Rattle.robinx_tags.specs.declared.tag.TagKind.TheVariants.{Start, End, Empty, Text}
-use Rattle.robinx_tags.specs.declared.fault.FormKind.{FormKind}
-use Rattle.robinx_tags.specs.declared.fault.FormKind.TheVariants.{BadNesting, MissingElement, Truncated}
+use Rattle.robinx.specs.Fronts.{◌>>=◌, check, trimmed}
+use Rattle.robinx.specs.Tags.{Attribute}
+use Rattle.robinx.specs.Pieces.{Piece, Pieces, Last, Ends, Faulty}
+use Rattle.robinx.specs.declared.tag.TagKind.{TagKind}
+use Rattle.robinx.specs.declared.tag.TagKind.TheVariants.{Start, End, Empty, Text}
+use Rattle.robinx.specs.declared.tag_fault.FormKind.{FormKind}
+use Rattle.robinx.specs.declared.tag_fault.FormKind.TheVariants.{BadNesting, MissingElement, Truncated}
 use Rattle.robinx.specs.Elements.{element_name, has_value}
 use Rattle.robinx.specs.Walk as walk
 use Rattle.robinx.specs.Walk.{Meaning, Open, Position, Fault, is_complete, on_line, end_line, closed, begins, with_seen, reading}

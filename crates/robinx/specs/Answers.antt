@@ -1,9 +1,9 @@
 -- What functions answer of what is read. Want of memory says nothing of it.
 use Rattle.std.specs.Prelude.{◌≡◌, ⊤, ℕ, Result, Ok, Err}
-use Rattle.robinx_tags.specs.Faults.{fault_on}
-use Rattle.robinx_tags.specs.declared.fault.FormKind.{FormKind}
-use Rattle.robinx_tags.specs.declared.fault.Stop.{Stop}
-use Rattle.robinx_tags.specs.declared.fault.Stop.TheVariants as stops
+use Rattle.robinx.specs.Faults.{fault_on}
+use Rattle.robinx.specs.declared.tag_fault.FormKind.{FormKind}
+use Rattle.robinx.specs.declared.tag_fault.Stop.{Stop}
+use Rattle.robinx.specs.declared.tag_fault.Stop.TheVariants as stops
 use Rattle.robinx.specs.Walk.{Fault}
 use Rattle.robinx.specs.Tagged.{of_tags}
 use Rattle.robinx.specs.declared.fault.ReadFault.{ReadFault}

@@ -3,7 +3,7 @@ use Prim.Native.String.{String}
 use Rattle.std.specs.Prelude.{ℕ, List, ◌++◌, map, codes, decimal}
 use Rattle.std.specs.List.{flat_map, join_with_byte}
 use Rattle.std.specs.Str.{byte}
-use Rattle.robinx_tags.specs.Tags.{Attribute}
+use Rattle.robinx.specs.Tags.{Attribute}
 
 -- an attribute that is a word
 abbrev pub word : String → String → Attribute

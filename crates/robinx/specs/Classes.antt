@@ -1,7 +1,7 @@
 -- The attributes of the nine classes, each in the order in which they are read (RobinX).
 use Rattle.std.specs.Prelude.{ℕ, List, Ok, codes}
-use Rattle.robinx_tags.specs.Fronts.{◌>>=◌}
-use Rattle.robinx_tags.specs.Tags.{Attribute}
+use Rattle.robinx.specs.Fronts.{◌>>=◌}
+use Rattle.robinx.specs.Tags.{Attribute}
 use Rattle.robinx.specs.Values.{Reading, required, optional, number, teams, slots, meetings}
 use Rattle.robinx.specs.Words.{hardness}
 use Rattle.robinx.specs.Demands as demand

@@ -1,8 +1,8 @@
 -- What the nine classes demand, beside their sets of teams, meetings and slots: their numbers and words, each in the
 -- order in which they are read (RobinX).
 use Rattle.std.specs.Prelude.{ℕ, List, Ok, codes}
-use Rattle.robinx_tags.specs.Fronts.{◌>>=◌}
-use Rattle.robinx_tags.specs.Tags.{Attribute}
+use Rattle.robinx.specs.Fronts.{◌>>=◌}
+use Rattle.robinx.specs.Tags.{Attribute}
 use Rattle.robinx.specs.Values.{Reading, required, optional, number, above_zero, only}
 use Rattle.robinx.specs.Words.{home_or_away, side, span}
 use Rattle.league.specs.declared.class.Side.{Side}

@@ -1,7 +1,7 @@
 -- The elements of instance and solution files (RobinX) that are read, and where they stand.
 use Rattle.std.specs.Prelude.{ℕ, Bool, true, false, List, [], ◌∷◌, map, Option, Some, None, codes}
-use Rattle.robinx_tags.specs.declared.fault.FormKind.{FormKind}
-use Rattle.robinx_tags.specs.declared.fault.FormKind.TheVariants.{BadNesting, RepeatedElement, UnsupportedClass}
+use Rattle.robinx.specs.declared.tag_fault.FormKind.{FormKind}
+use Rattle.robinx.specs.declared.tag_fault.FormKind.TheVariants.{BadNesting, RepeatedElement, UnsupportedClass}
 use Rattle.league.specs.Names.{name_text}
 use Rattle.league.specs.declared.class.ClassName.TheVariants.{Ca1, Ca2, Ca3, Ca4, Ga1, Br1, Br2, Fa2, Se1}
 use Rattle.robinx.specs.declared.element.GroupName.{GroupName}

@@ -2,7 +2,7 @@
 use Rattle.std.specs.Prelude.{List, Ok}
 use Rattle.std.specs.List.{fold}
 use Rattle.std.specs.declared.cmp.Ordering.{Ordering}
-use Rattle.robinx_tags.specs.Fronts.{◌>>=◌}
+use Rattle.robinx.specs.Fronts.{◌>>=◌}
 use Rattle.robinx.specs.Values.{Reading}
 use Rattle.league.specs.Sets.{with_item}
 

@@ -1,10 +1,10 @@
 -- What an instance file says.
 use Rattle.std.specs.Prelude.{ℕ, Bool, false, ◌&&◌, ◌==◌, nat_lt, List, [], ◌∷◌, ◌++◌, length, Result, Ok, codes}
 use Rattle.std.specs.List.{list_all}
-use Rattle.robinx_tags.specs.Fronts.{◌>>=◌, check}
-use Rattle.robinx_tags.specs.Tags.{Attribute}
-use Rattle.robinx_tags.specs.Pieces.{Pieces}
-use Rattle.robinx_tags.specs.declared.fault.FormKind.TheVariants.{MissingElement, WrongCounts, TooMany}
+use Rattle.robinx.specs.Fronts.{◌>>=◌, check}
+use Rattle.robinx.specs.Tags.{Attribute}
+use Rattle.robinx.specs.Pieces.{Pieces}
+use Rattle.robinx.specs.declared.tag_fault.FormKind.TheVariants.{MissingElement, WrongCounts, TooMany}
 use Rattle.robinx.specs.Walk.{Meaning, Fault, reading}
 use Rattle.robinx.specs.Values.{Reading, required, number, only}
 use Rattle.robinx.specs.Classes.{constraint_of}

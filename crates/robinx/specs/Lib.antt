@@ -1,5 +1,15 @@
 -- What a reader of a claim must believe:
 --
+-- The pieces of a file, its tags and texts from front to back, each with its line, up to the first fault:
+pub mod Bytes
+pub mod Fronts
+pub mod Tags
+pub mod Pieces
+pub mod SeenAttr
+pub mod SeenTag
+pub mod Next
+pub mod Faults
+pub mod SeenPieces
 -- What a file says, read in this order; each needs only those above it.
 pub mod Elements
 pub mod Walk
@@ -21,6 +31,8 @@ pub mod Names
 pub mod NamesFile
 -- Kept inside (laws, and how fields are seen):
 --
+-- What the steps to the next piece answer:
+pub mod Moves
 -- Sets as they are read, item by item:
 pub mod Gathered
 -- Names and positions without where they lie in memory, and what a draft keeps:

@@ -1,8 +1,8 @@
 -- The names that an instance file gives: a second meaning of its elements, beside that of `instance_of`.
 use Rattle.std.specs.Prelude.{ℕ, List, [], Result, Ok, unwrap_or, replicate, slice_set, codes}
-use Rattle.robinx_tags.specs.Fronts.{◌>>=◌}
-use Rattle.robinx_tags.specs.Tags.{Attribute, value_of}
-use Rattle.robinx_tags.specs.Pieces.{Pieces}
+use Rattle.robinx.specs.Fronts.{◌>>=◌}
+use Rattle.robinx.specs.Tags.{Attribute, value_of}
+use Rattle.robinx.specs.Pieces.{Pieces}
 use Rattle.robinx.specs.Walk.{Meaning, Fault, reading}
 use Rattle.robinx.specs.Values.{Reading, required, number}
 use Rattle.robinx.specs.declared.element.Element.{Element}

@@ -4,9 +4,9 @@ use Rattle.std.specs.Prelude.{length, take, map, slice_index, codes}
 use Rattle.std.specs.List.{All, list_any}
 use Rattle.std.specs.Str.{byte, chars, encode_utf8_all}
 use Rattle.std.specs.Str.Lossy.{utf8_lossy}
-use Rattle.robinx_tags.specs.Bytes.{is_white}
-use Rattle.robinx_tags.specs.Fronts.{trimmed}
-use Rattle.robinx_tags.specs.Pieces.{begins}
+use Rattle.robinx.specs.Bytes.{is_white}
+use Rattle.robinx.specs.Fronts.{trimmed}
+use Rattle.robinx.specs.Pieces.{begins}
 
 -- the byte that the front of some bytes stands for, and how many bytes behind the first belong to it: each of the five
 -- entities of XML stands for one byte, and any other byte for itself

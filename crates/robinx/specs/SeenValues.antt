@@ -2,7 +2,7 @@
 use Rattle.std.specs.Prelude.{ℕ, List, ◌++◌, map, codes, decimal}
 use Rattle.std.specs.List.{flat_map, join_with_byte}
 use Rattle.std.specs.Str.{byte}
-use Rattle.robinx_tags.specs.Tags.{Attribute}
+use Rattle.robinx.specs.Tags.{Attribute}
 use Rattle.robinx.specs.declared.write_tag.Value.{Value}
 use Rattle.robinx.specs.declared.write_tag.Value.TheVariants.{Word, Count, Ids, Pairs}
 use Rattle.robinx.specs.declared.write_tag.NamedValue.{NamedValue}

@@ -1,9 +1,9 @@
 -- What a solution file says, for a league of n teams.
 use Rattle.std.specs.Prelude.{ℕ, nat_lt, List, [], ◌∷◌, ◌++◌, length, Result, Ok, codes}
-use Rattle.robinx_tags.specs.Fronts.{◌>>=◌, check}
-use Rattle.robinx_tags.specs.Tags.{Attribute}
-use Rattle.robinx_tags.specs.Pieces.{Pieces}
-use Rattle.robinx_tags.specs.declared.fault.FormKind.TheVariants.{TooMany}
+use Rattle.robinx.specs.Fronts.{◌>>=◌, check}
+use Rattle.robinx.specs.Tags.{Attribute}
+use Rattle.robinx.specs.Pieces.{Pieces}
+use Rattle.robinx.specs.declared.tag_fault.FormKind.TheVariants.{TooMany}
 use Rattle.robinx.specs.Walk.{Meaning, Fault, reading}
 use Rattle.robinx.specs.Values.{Reading, required, team, slot, distinct}
 use Rattle.robinx.specs.declared.element.Element.{Element}

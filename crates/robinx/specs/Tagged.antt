@@ -1,6 +1,6 @@
 -- Faults of tags as faults of reading.
-use Rattle.robinx_tags.specs.declared.fault.TagFault.{TagFault}
-use Rattle.robinx_tags.specs.declared.fault.TagFault.TheVariants as tags
+use Rattle.robinx.specs.declared.tag_fault.TagFault.{TagFault}
+use Rattle.robinx.specs.declared.tag_fault.TagFault.TheVariants as tags
 use Rattle.robinx.specs.declared.fault.ReadFault.{ReadFault}
 use Rattle.robinx.specs.declared.fault.ReadFault.TheVariants as faults
 

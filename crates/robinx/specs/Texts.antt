@@ -17,7 +17,7 @@ use Rattle.league.specs.declared.class.Side.{Side}
 use Rattle.league.specs.declared.class.Side.TheVariants.{H, A, Both}
 use Rattle.league.specs.declared.class.Span.{Span}
 use Rattle.league.specs.declared.class.Span.TheVariants.{Global, Every}
-use Rattle.robinx_tags.specs.Tags.{Attribute}
+use Rattle.robinx.specs.Tags.{Attribute}
 use Rattle.robinx.specs.Attributes.{word, count, ids, pairs, attribute_text, tag_line}
 use Rattle.robinx.specs.Elements.{group_name}
 use Rattle.robinx.specs.declared.element.GroupName.{GroupName}

@@ -6,10 +6,10 @@ use Prim.Native.String.{String}
 use Rattle.std.specs.Str.{byte}
 use Rattle.std.specs.Str.Parse.{digits_value}
 use Rattle.robin_io.specs.Numbers.{is_number}
-use Rattle.robinx_tags.specs.Fronts.{◌>>=◌, check}
-use Rattle.robinx_tags.specs.Tags.{Attribute, value_of}
-use Rattle.robinx_tags.specs.declared.fault.FormKind.{FormKind}
-use Rattle.robinx_tags.specs.declared.fault.FormKind.TheVariants as kind
+use Rattle.robinx.specs.Fronts.{◌>>=◌, check}
+use Rattle.robinx.specs.Tags.{Attribute, value_of}
+use Rattle.robinx.specs.declared.tag_fault.FormKind.{FormKind}
+use Rattle.robinx.specs.declared.tag_fault.FormKind.TheVariants as kind
 use Rattle.league.specs.Counts.{teams_of, slots_of, slot_count}
 use Rattle.league.specs.Meetings.{meetings_of}
 use Rattle.league.specs.Sets.{is_in}

@@ -2,13 +2,13 @@
 use Rattle.std.specs.Prelude.{ℕ, Bool, true, not, if◌then◌else◌, List, [], ◌∷◌, ◌++◌, Option, Some, None}
 use Rattle.std.specs.Prelude.{Result, Ok, Err, bytes_eq}
 use Rattle.std.specs.List.{find, list_all, list_any}
-use Rattle.robinx_tags.specs.Fronts.{◌>>=◌, check, trimmed}
-use Rattle.robinx_tags.specs.Tags.{Attribute}
-use Rattle.robinx_tags.specs.Pieces.{Piece, Pieces, Last, Ends, Faulty}
-use Rattle.robinx_tags.specs.declared.tag.TagKind.{TagKind}
-use Rattle.robinx_tags.specs.declared.tag.TagKind.TheVariants.{Start, End, Empty, Text}
-use Rattle.robinx_tags.specs.declared.fault.FormKind.{FormKind}
-use Rattle.robinx_tags.specs.declared.fault.FormKind.TheVariants.{BadNesting, MissingElement, Truncated}
+use Rattle.robinx.specs.Fronts.{◌>>=◌, check, trimmed}
+use Rattle.robinx.specs.Tags.{Attribute}
+use Rattle.robinx.specs.Pieces.{Piece, Pieces, Last, Ends, Faulty}
+use Rattle.robinx.specs.declared.tag.TagKind.{TagKind}
+use Rattle.robinx.specs.declared.tag.TagKind.TheVariants.{Start, End, Empty, Text}
+use Rattle.robinx.specs.declared.tag_fault.FormKind.{FormKind}
+use Rattle.robinx.specs.declared.tag_fault.FormKind.TheVariants.{BadNesting, MissingElement, Truncated}
 use Rattle.robinx.specs.Elements.{element_name, inside, unlisted, repeated, has_value}
 use Rattle.robinx.specs.declared.element.Times.{Times}
 use Rattle.robinx.specs.declared.element.Times.TheVariants.{Once, AtMostOnce, Any}

@@ -3,15 +3,16 @@
 ghost use Rattle.std.specs.Prelude.{◌≡◌, ◌≤◌, true, IfOk};
 ghost use Rattle.league.specs.Instance.{class_fits, are_teams};
 ghost use Rattle.league.specs.declared.class.ClassName.TheVariants as names;
-ghost use Rattle.robinx_tags.specs.Seen.{Gives};
+ghost use Rattle.robinx.specs.SeenPieces.{Gives};
 ghost use Rattle.robinx.specs.Classes as classes;
 
+use crate::attribute::Attrs;
 use crate::demands::{br1_in, br2_in, ca1_in, ca2_in, ca3_in, ca4_in, fa2_in, ga1_in, se1_in};
 use crate::lists::{meetings_in, slots_in, teams_in};
+use crate::tag_fault::Stop;
 use crate::values::number_or;
 use crate::words::hardness_in;
 use league::{Class, ClassName, Constraint, TeamSet};
-use robinx_tags::{Attrs, Stop};
 use std::alloc::Global;
 
 /// Two sets of teams that play against each other.

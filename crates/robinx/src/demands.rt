@@ -3,10 +3,11 @@ ghost use Rattle.std.specs.Prelude.{◌≡◌, ◌<◌, true, IfOk};
 ghost use Rattle.league.specs.Instance.{is_one_side};
 ghost use Rattle.robinx.specs.Demands as demands;
 
+use crate::attribute::Attrs;
+use crate::tag_fault::FormKind;
 use crate::values::{above_zero_in, number_in, number_or, only_or_none};
 use crate::words::{home_or_away_in, side_in, span_in};
 use league::{Side, Span};
-use robinx_tags::{Attrs, FormKind};
 
 /// The bounds of a capacity class, of which the lower one is 0 where it is absent.
 fn bounds_in(tag: &Attrs) -> Result<(u32, u32), FormKind>

@@ -5,13 +5,14 @@ ghost use Rattle.league.specs.Sets.{is_in};
 ghost use Rattle.robinx.specs.InstanceFile as instance;
 ghost use Rattle.robinx.specs.Answers.{Changes};
 
+use crate::attribute::Attrs;
 use crate::classes::constraint_of;
 use crate::element::Element;
 use crate::reads::Reads;
+use crate::tag_fault::{FormKind, Stop};
 use crate::values::{number, number_in, only};
 use crate::words::game_mode;
 use league::{ClassName, Constraint, League, is_team_count, slot_count};
-use robinx_tags::{Attrs, FormKind, Stop};
 use std::alloc::Global;
 use std::marker::Model;
 

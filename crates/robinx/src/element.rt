@@ -4,8 +4,8 @@ ghost use Rattle.std.specs.List.{find};
 ghost use Rattle.robinx.specs.Elements as elements;
 ghost use Rattle.robinx.specs.Walk as walk;
 
+use crate::tag_fault::FormKind;
 use league::ClassName;
-use robinx_tags::FormKind;
 
 /// The six groups that classes stand in. Which class stands in which isn't looked at.
 #[derive(Clone, Copy)]

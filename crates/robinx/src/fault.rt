@@ -1,5 +1,5 @@
 // Why a file could not be read.
-use robinx_tags::{FormKind, TagFault};
+use crate::tag_fault::{FormKind, TagFault};
 use thiserror::Error;
 
 /// A fault of form and its line, counted from 1: for a piece that of its first byte, for an element that isn't whole

@@ -5,11 +5,12 @@ ghost use Rattle.robinx.specs.SolutionFile as solution;
 ghost use Rattle.league.specs.Instance.{IsGame};
 ghost use Rattle.robinx.specs.Answers.{Changes};
 
+use crate::attribute::Attrs;
 use crate::element::Element;
 use crate::lists::{distinct, slot_in, team_in};
 use crate::reads::Reads;
+use crate::tag_fault::{FormKind, Stop};
 use league::{Game, Schedule, SlotId, TeamId};
-use robinx_tags::{Attrs, FormKind, Stop};
 use std::alloc::Global;
 use std::marker::Model;
 

@@ -1,7 +1,7 @@
 // Instance files and solution files.
 ghost use Rattle.std.specs.Prelude.{◌≤◌, length, IfOk};
 ghost use Rattle.std.specs.List.{All};
-ghost use Rattle.robinx_tags.specs.Pieces.{pieces};
+ghost use Rattle.robinx.specs.Pieces.{pieces};
 ghost use Rattle.league.specs.Instance.{IsGame};
 ghost use Rattle.robinx.specs.InstanceFile.{instance_of};
 ghost use Rattle.robinx.specs.SolutionFile.{solution_of};
@@ -11,9 +11,9 @@ use crate::draft::Draft;
 use crate::element::Element;
 use crate::fault::ReadFault;
 use crate::games::Games;
+use crate::reader::TagReader;
 use crate::walk::read_file;
 use league::{League, Schedule};
-use robinx_tags::TagReader;
 use std::alloc::Global;
 
 /// The most bytes that an instance file may have: 16 MiB (own limit).

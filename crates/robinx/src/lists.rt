@@ -3,16 +3,17 @@ ghost use Rattle.std.specs.Prelude.{◌≡◌, ◌≢◌, ◌<◌, ◌≤◌, �
 ghost use Rattle.std.specs.List.{before_first, after_first, position_or_len};
 ghost use Rattle.std.specs.Str.{byte};
 ghost use Rattle.std.specs.Ordering.{nat_cmp};
-ghost use Rattle.robinx_tags.specs.Seen.{Gives};
+ghost use Rattle.robinx.specs.SeenPieces.{Gives};
 ghost use Rattle.league.specs.Sets.{pair_cmp};
 ghost use Rattle.league.specs.Instance.{are_teams, are_slots, are_meetings};
 ghost use Rattle.league.specs.Counts as counts;
 ghost use Rattle.robinx.specs.Values as values;
 ghost use Rattle.robinx.specs.Gathered.{gathered};
 
+use crate::attribute::Attrs;
+use crate::tag_fault::{FormKind, Stop};
 use crate::values::{id, required};
 use league::{PairSet, SlotId, SlotSet, TeamId, TeamSet, slot_count};
-use robinx_tags::{Attrs, FormKind, Stop};
 use std::alloc::Global;
 
 /// How many bytes stand before this one. An item has few bytes, so that a plain loop finds its end sooner than a

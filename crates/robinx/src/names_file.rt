@@ -1,6 +1,6 @@
 //! The names of an instance file.
 ghost use Rattle.std.specs.Prelude.{◌≡◌, ◌≤◌, length, IfErr, IfOk};
-ghost use Rattle.robinx_tags.specs.Pieces.{pieces};
+ghost use Rattle.robinx.specs.Pieces.{pieces};
 ghost use Rattle.robinx.specs.InstanceFile.{instance_of};
 ghost use Rattle.robinx.specs.Answers.{Says};
 ghost use Rattle.robinx.specs.declared.fault.ReadFault.TheVariants as faults;
@@ -13,10 +13,10 @@ use crate::Names;
 use crate::element::Element;
 use crate::fault::ReadFault;
 use crate::instance::INSTANCE_LIMIT;
+use crate::reader::TagReader;
 use crate::roll::Roll;
 use crate::walk::read_file;
 use league::League;
-use robinx_tags::TagReader;
 use std::alloc::{AllocError, Global};
 
 /// The names that an instance file gives, where these are known before it.

@@ -4,7 +4,7 @@ ghost use Rattle.std.specs.Str.{chars};
 ghost use Rattle.robinx.specs.Plain as plain;
 ghost use Rattle.robinx.specs.Plain.{IsPlain};
 
-use robinx_tags::trimmed;
+use crate::fronts::trimmed;
 use std::alloc::{AllocError, Global};
 
 /// The most characters that a name has.

@@ -1,12 +1,13 @@
 // How far a walk over a file has come: the elements that are open there.
 ghost use Rattle.std.specs.Prelude.{◌≡◌, ◌++◌, [], bytes_eq, Ok};
 ghost use Rattle.std.specs.List.{list_any};
-ghost use Rattle.robinx_tags.specs.Fronts as fronts;
+ghost use Rattle.robinx.specs.Fronts as fronts;
 ghost use Rattle.robinx.specs.Walk as walk;
 ghost use Rattle.robinx.specs.Answers.{Changes};
 
 use crate::element::{Element, Row, Times};
-use robinx_tags::{FormKind, Stop, trimmed};
+use crate::fronts::trimmed;
+use crate::tag_fault::{FormKind, Stop};
 use std::alloc::Global;
 use std::marker::Model;
 

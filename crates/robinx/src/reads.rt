@@ -1,8 +1,9 @@
 // What the elements of a kind of file mean.
 ghost use Rattle.robinx.specs.Answers.{Changes};
 
+use crate::attribute::Attrs;
 use crate::element::Element;
-use robinx_tags::{Attrs, Stop};
+use crate::tag_fault::Stop;
 use std::alloc::Global;
 
 /// What is read of a file, element by element, as the walk over its pieces finds them.

@@ -4,12 +4,13 @@ ghost use Rattle.robinx.specs.Plain.{IsPlain};
 ghost use Rattle.robinx.specs.NamesFile as file;
 ghost use Rattle.robinx.specs.Answers.{Changes};
 
+use crate::attribute::Attrs;
 use crate::element::Element;
 use crate::reads::Reads;
+use crate::tag_fault::Stop;
 use crate::values::number_in;
 use crate::{Names, plain_name};
 use league::slot_count;
-use robinx_tags::{Attrs, Stop};
 use std::alloc::{AllocError, Global};
 use std::marker::Model;
 

@@ -1,11 +1,12 @@
 // Values of attributes, and which attributes there are.
 ghost use Rattle.std.specs.Prelude.{◌≡◌, ◌<◌, ◌-◌, true, bytes_eq, IfOk};
 ghost use Rattle.std.specs.Char.{is_ascii_digit};
-ghost use Rattle.robinx_tags.specs.Seen.{Finds};
+ghost use Rattle.robinx.specs.SeenPieces.{Finds};
 ghost use Rattle.robinx.specs.Values as values;
 
+use crate::attribute::Attrs;
+use crate::tag_fault::FormKind;
 use robin_io::{NumberFault, decimal};
-use robinx_tags::{Attrs, FormKind};
 
 /// The value of an ASCII digit.
 fn digit_value(digit: u8) -> u32

@@ -1,6 +1,6 @@
 // The walk over the pieces of a file, the same for all elements.
 ghost use Rattle.std.specs.Prelude.{◌≡◌, ◌<◌, ◌∷◌, length, None};
-ghost use Rattle.robinx_tags.specs.SeenTag.{view_of};
+ghost use Rattle.robinx.specs.SeenTag.{view_of};
 ghost use Rattle.robinx.specs.Walk as walk;
 ghost use Rattle.robinx.specs.SeenPosition.{position_of};
 ghost use Rattle.robinx.specs.declared.fault.ReadFault.TheVariants as faults;
@@ -9,8 +9,10 @@ ghost use Rattle.robinx.specs.Answers.{Changes, Walks, answer_on};
 use crate::element::Element;
 use crate::fault::{FormFault, ReadFault};
 use crate::position::{Open, Position};
+use crate::reader::TagReader;
 use crate::reads::Reads;
-use robinx_tags::{FormKind, Stop, Tag, TagKind, TagReader};
+use crate::tag::{Tag, TagKind};
+use crate::tag_fault::{FormKind, Stop};
 use std::alloc::Global;
 use std::mem::replace;
 

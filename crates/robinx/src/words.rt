@@ -3,9 +3,10 @@ ghost use Rattle.std.specs.Prelude.{◌≡◌, codes};
 ghost use Rattle.robinx.specs.Values as values;
 ghost use Rattle.robinx.specs.Words as words;
 
+use crate::attribute::Attrs;
+use crate::tag_fault::FormKind;
 use crate::values::{is_word, required};
 use league::{Side, Span};
-use robinx_tags::{Attrs, FormKind};
 
 fn home_or_away(text: &[u8]) -> Result<Side, FormKind>
     ensures { result ≡ words.home_or_away text.now }

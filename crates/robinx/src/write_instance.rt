@@ -1,7 +1,7 @@
 //! The text of an instance file.
 ghost use Rattle.std.specs.Prelude.{◌≡◌, ◌≤◌, ◌++◌, IfOk, OnOk, Ok, codes};
 ghost use Rattle.std.specs.List.{flat_map, range_with_len};
-ghost use Rattle.robinx_tags.specs.Pieces.{pieces};
+ghost use Rattle.robinx.specs.Pieces.{pieces};
 ghost use Rattle.robinx.specs.InstanceFile.{instance_of};
 ghost use Rattle.robinx.specs.Texts as texts;
 ghost use Rattle.robinx.specs.Texts.{id_line, head_text, season_text, instance_text as text_of};

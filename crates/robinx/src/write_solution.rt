@@ -2,7 +2,7 @@
 ghost use Rattle.std.specs.Prelude.{◌≡◌, ◌≤◌, ◌++◌, ℕ, length, IfOk, OnOk, Ok};
 ghost use Rattle.std.specs.List.{All, flat_map};
 ghost use Rattle.league.specs.Instance.{IsGame};
-ghost use Rattle.robinx_tags.specs.Pieces.{pieces};
+ghost use Rattle.robinx.specs.Pieces.{pieces};
 ghost use Rattle.robinx.specs.SolutionFile.{solution_of};
 ghost use Rattle.robinx.specs.Texts.{game_line, score_text, solution_text as text_of};
 

@@ -1,6 +1,6 @@
 //! The pieces of small files: each with its line, and then the line of the end, or the first fault.
 use crate::telling::words_of;
-use robinx_tags::{Attr, Tag, TagFault, TagKind, TagReader};
+use robinx::{Attr, Tag, TagFault, TagKind, TagReader};
 use std::io;
 
 /// The most bytes of a file.

@@ -2,7 +2,7 @@ use Rattle.std.proofs.Common.{◌≡◌, ℕ, ◌<◌, List, codes, inr, length,
 use Rattle.robin_io.specs.Counts.{raised}
 use Rattle.robin_io.specs.Outside.{Store, store_between}
 use Rattle.league.specs.Instance.{Instance}
-use Rattle.robinx_tags.specs.Pieces.{pieces}
+use Rattle.robinx.specs.Pieces.{pieces}
 use Rattle.robinx.specs.InstanceFile.{instance_of}
 use Rattle.robinx.specs.declared.instance.TheConstants.{INSTANCE_LIMIT}
 use Rattle.answers.specs.SeenReply.{IsMalformed}

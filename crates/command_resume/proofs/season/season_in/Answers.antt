@@ -1,6 +1,6 @@
 use Rattle.std.proofs.Common.{◌≡◌, ℕ, ◌+◌, List, Option, Ok, length, arith, codes, rules, subst, sym}
 use Rattle.robin_io.specs.Outside.{Store, store_between}
-use Rattle.robinx_tags.specs.Pieces.{pieces}
+use Rattle.robinx.specs.Pieces.{pieces}
 use Rattle.robinx.specs.InstanceFile.{instance_of}
 use Rattle.robinx.specs.SolutionFile.{solution_of}
 use Rattle.robinx.specs.declared.instance.TheConstants.{INSTANCE_LIMIT, SOLUTION_LIMIT}

@@ -1,6 +1,6 @@
 use Rattle.std.proofs.Common.{ℕ, List, subst}
 use Rattle.robinx.specs.Values.{Reading}
-use Rattle.robinx_tags.specs.Seen.{Gives}
+use Rattle.robinx.specs.SeenPieces.{Gives}
 use Rattle.robinx.proofs.KnownLemmas.{gathered_teams, teams_fit_all}
 use Rattle.robinx.proofs.lists.teams.Goals as goal
 

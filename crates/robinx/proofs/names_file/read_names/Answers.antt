@@ -1,6 +1,6 @@
 use Rattle.std.proofs.Common.{ℕ, subst}
 use Rattle.std.specs.Prelude.{IfOk}
-use Rattle.robinx_tags.specs.Pieces.{pieces}
+use Rattle.robinx.specs.Pieces.{pieces}
 use Rattle.robinx.specs.Walk.{reading}
 use Rattle.robinx.specs.declared.element.Element.TheVariants.{InstanceFile}
 use Rattle.robinx.specs.Answers.{Says}

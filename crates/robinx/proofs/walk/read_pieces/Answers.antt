@@ -1,8 +1,8 @@
 use Rattle.std.proofs.Common.{◌≡◌, length, Err, sym, ap, ◌∙◌, subst, arith}
 use Rattle.std.proofs.lemmas.Result.{err_from_is_err_and}
 use Rattle.std.proofs.lemmas.Bool.Decides.{nat_tests}
-use Rattle.robinx_tags.specs.SeenTag.{view_of}
-use Rattle.robinx_tags.specs.declared.fault.FormKind.TheVariants.{Truncated}
+use Rattle.robinx.specs.SeenTag.{view_of}
+use Rattle.robinx.specs.declared.tag_fault.FormKind.TheVariants.{Truncated}
 use Rattle.robinx.specs.Walk.{at_file_end}
 use Rattle.robinx.specs.Tagged.{of_tags}
 use Rattle.robinx.specs.SeenPosition.{position_of}

@@ -1,0 +1,9 @@
+use Rattle.std.proofs.Common.{◌≡◌, ℕ, ◌-◌, ◌<◌, ◌≤◌, true, length, get_or}
+use Rattle.robinx.specs.Bytes.{is_name_byte}
+use Rattle.robinx.proofs.bytes.name_len.Given as goal
+
+abbrev pub invariant-loop-len : goal.invariant-loop-len
+invariant-loop-len l = record { within : l.len ≤ length l.bytes; before : (k : ℕ) → k < l.len → is_name_byte (get_or l.bytes k 0) ≡ true }
+
+abbrev pub decreases-loop-len : goal.decreases-loop-len
+decreases-loop-len l = length l.bytes - l.len

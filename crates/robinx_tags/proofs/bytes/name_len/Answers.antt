@@ -1,6 +1,0 @@
-use Rattle.robinx_tags.specs.Bytes.{is_name_byte}
-use Rattle.robinx_tags.proofs.SearchLemmas.{run_to_end}
-use Rattle.robinx_tags.proofs.bytes.name_len.Goals as goal
-
-pub returns-after-loop-len-clause-value : goal.returns-after-loop-len-clause-value
-returns-after-loop-len-clause-value c = run_to_end is_name_byte c.args.bytes.now c.loop-len.len c.loop-len-test.false c.loop-len.invariant.within c.loop-len.invariant.before
