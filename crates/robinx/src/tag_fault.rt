@@ -4,66 +4,77 @@ ghost use Rattle.robinx.specs.declared.tag_fault.Stop.TheVariants as stops;
 ghost use Rattle.robinx.specs.Faults.{fault_on};
 
 use std::alloc::{AllocError, AllocFailed};
+use std::{error, fmt};
 use thiserror::Error;
 
 /// What is wrong with a file. The reader of tags gives the first five.
-#[derive(Clone, Copy, Debug, PartialEq, Eq, Error)]
+#[derive(Clone, Copy, Debug, PartialEq, Eq)]
 pub enum FormKind {
     /// A tag isn't written as a tag.
-    #[error("a tag is malformed")]
     BadTag,
     /// An attribute has no `=`, no quoted value, or a `<` in its value.
-    #[error("an attribute is malformed")]
     BadAttribute,
     /// A tag has two attributes of one name.
-    #[error("an attribute is repeated")]
     RepeatedAttribute,
     /// A tag has more than 64 attributes.
-    #[error("a tag has more than 64 attributes")]
     TooManyAttributes,
     /// The file ends too early.
-    #[error("the file ends too early")]
     Truncated,
     /// A tag stands where it may not.
-    #[error("a tag stands where it may not")]
     BadNesting,
     /// An element that has to be there isn't.
-    #[error("an element is missing")]
     MissingElement,
     /// An element that may stand once comes again.
-    #[error("an element is repeated")]
     RepeatedElement,
     /// An attribute that has to be there isn't.
-    #[error("an attribute is missing")]
     MissingAttribute,
     /// A value is no decimal number.
-    #[error("a number is malformed")]
     BadNumber,
     /// A number is above 4,294,967,295.
-    #[error("a number is too large")]
     NumberTooLarge,
     /// The league has no such team.
-    #[error("a team is unknown")]
     UnknownTeam,
     /// The season has no such slot.
-    #[error("a slot is unknown")]
     UnknownSlot,
     /// A team meets itself.
-    #[error("a team meets itself")]
     SameTeam,
     /// A value is none of those that may stand there.
-    #[error("a value is none of the possible ones")]
     BadChoice,
     /// A class of constraints is none of the nine.
-    #[error("a class of constraints is unsupported")]
     UnsupportedClass,
     /// Teams, slots or rounds are not those of a double round robin.
-    #[error("teams, slots or rounds are miscounted")]
     WrongCounts,
     /// There are too many constraints or games.
-    #[error("there are too many constraints or games")]
     TooMany,
 }
+
+impl fmt::Display for FormKind {
+    fn fmt<W: fmt::Write>(&self, f: &mut fmt::Formatter<W>) -> fmt::Result {
+        let words = match *self {
+            FormKind::BadTag => "a tag is malformed",
+            FormKind::BadAttribute => "an attribute is malformed",
+            FormKind::RepeatedAttribute => "an attribute is repeated",
+            FormKind::TooManyAttributes => "a tag has more than 64 attributes",
+            FormKind::Truncated => "the file ends too early",
+            FormKind::BadNesting => "a tag stands where it may not",
+            FormKind::MissingElement => "an element is missing",
+            FormKind::RepeatedElement => "an element is repeated",
+            FormKind::MissingAttribute => "an attribute is missing",
+            FormKind::BadNumber => "a number is malformed",
+            FormKind::NumberTooLarge => "a number is too large",
+            FormKind::UnknownTeam => "a team is unknown",
+            FormKind::UnknownSlot => "a slot is unknown",
+            FormKind::SameTeam => "a team meets itself",
+            FormKind::BadChoice => "a value is none of the possible ones",
+            FormKind::UnsupportedClass => "a class of constraints is unsupported",
+            FormKind::WrongCounts => "teams, slots or rounds are miscounted",
+            FormKind::TooMany => "there are too many constraints or games",
+        };
+        write!(f, "{words}")
+    }
+}
+
+impl error::Error for FormKind {}
 
 /// Why there is no next piece.
 #[derive(Debug, Drop, PartialEq, Eq, Error)]
