@@ -6,7 +6,7 @@ use Rattle.command_line.specs.declared.topic.Topic.{Topic}
 use Rattle.command_line.specs.declared.topic.Topic.TheVariants as topic
 use Rattle.answers.specs.Help.{help_text, version_answer}
 
-pub version : version_answer.text ≡ codes "robin 3.1.8\n"
+pub version : version_answer.text ≡ codes "robin 3.1.9\n"
 version = refl
 
 -- a page begins with the words of a command

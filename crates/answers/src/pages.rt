@@ -1,7 +1,7 @@
 //! The text of help, a page for each command, and the version: the one table of them.
 
 /// What `--version` prints.
-pub const VERSION: &str = "robin 3.1.8\n";
+pub const VERSION: &str = "robin 3.1.9\n";
 
 /// What `--help` prints: all commands with their words, the options and the statuses.
 pub const ALL: &str = "\
