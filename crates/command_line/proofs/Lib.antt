@@ -7,3 +7,5 @@ pub mod HelpLemmas
 pub mod StandingLemmas
 -- Lemmas on lists:
 pub mod ListLemmas
+-- Lemmas on which options there are:
+pub mod OptionLemmas

@@ -2,9 +2,9 @@
 ghost use Rattle.std.specs.Prelude.{◌≡◌, map, string_bytes, bytes_eq};
 ghost use Rattle.std.specs.List.{list_any};
 ghost use Rattle.command_line.specs.Words as options;
-ghost use Rattle.command_line.specs.Words.{prove_options, show_options};
-ghost use Rattle.command_line.specs.Words.{solve_options, start_options, timed_options};
 ghost use Rattle.command_line.specs.SeenOptions.{names_of};
+
+use crate::role::role_among;
 
 /// Which options with values a command has.
 #[derive(Clone, Copy)]
@@ -44,56 +44,7 @@ pub(crate) fn has_options(allowed: Options, words: &[String]) -> bool
 fn is_among(allowed: Options, word: &str) -> bool
     ensures { result ≡ list_any (λ name. bytes_eq word.now name) (names_of allowed) }
 {
-    match allowed {
-        Options::Search => word == "--conflicts",
-        Options::Timed => is_timed_option(word),
-        Options::Solve => is_solve_option(word),
-        Options::Start => is_start_option(word),
-        Options::Prove => is_prove_option(word),
-        Options::Log => word == "--room",
-        Options::Rows => word == "--bound",
-        Options::Show => is_show_option(word),
-    }
-}
-
-/// Whether a word is the name of an option of `show`.
-fn is_show_option(word: &str) -> bool
-    ensures { result ≡ list_any (λ name. bytes_eq word.now name) show_options }
-{
-    word == "--form" || word == "--most" || word == "--width"
-}
-
-/// Whether a word is the name of an option that says how far a search goes, or for how long.
-fn is_timed_option(word: &str) -> bool
-    ensures { result ≡ list_any (λ name. bytes_eq word.now name) timed_options }
-{
-    word == "--conflicts" || word == "--seconds"
-}
-
-/// Whether a word is the name of an option of `prove`.
-fn is_prove_option(word: &str) -> bool
-    ensures { result ≡ list_any (λ name. bytes_eq word.now name) prove_options }
-{
-    word == "--floor" || is_timed_option(word)
-}
-
-/// Whether a word is the name of an option of `solve`.
-fn is_start_option(word: &str) -> bool
-    ensures { result ≡ list_any (λ name. bytes_eq word.now name) start_options }
-{
-    word == "--from" || is_solve_option(word)
-}
-
-/// Whether a word is the name of an option of `trial`.
-fn is_solve_option(word: &str) -> bool
-    ensures { result ≡ list_any (λ name. bytes_eq word.now name) solve_options }
-{
-    word == "--conflicts"
-        || word == "--moves"
-        || word == "--tries"
-        || word == "--patterns"
-        || word == "--seed"
-        || word == "--seconds"
+    role_among(allowed, word).is_some()
 }
 
 /// Whether a word names an option: it begins with `--`.

@@ -2,8 +2,10 @@
 ghost use Rattle.std.specs.Prelude.{◌≡◌, ◌<◌, OnSome};
 ghost use Rattle.command_line.specs.Faults as faults;
 ghost use Rattle.command_line.specs.Later as later;
+ghost use Rattle.command_line.specs.SeenOptions as seen;
 
 use crate::list::is_list;
+use crate::option_names::Options;
 use crate::topic::Topic;
 use crate::values::{budget, form, is_name, most, number, small, team_count, tries};
 
@@ -93,16 +95,42 @@ pub(crate) fn is_flag(command: Topic, word: &str) -> bool
 pub(crate) fn option_role(command: Topic, word: &str) -> Option<Role>
     ensures { result ≡ faults.option_role command word.now }
 {
+    match options_of(command) {
+        Some(options) => role_among(options, word),
+        None => None,
+    }
+}
+
+/// The options with values that a command has, if any.
+fn options_of(command: Topic) -> Option<Options>
+    ensures { result ≡ seen.options_of command }
+{
     match command {
-        Topic::Solve => start_option(word),
-        Topic::Trial | Topic::Resume => solve_option(word),
-        Topic::Patterns => search_option(word),
-        Topic::Explain => timed_option(word),
-        Topic::Prove => prove_option(word),
-        Topic::Rows => row_option(word),
-        Topic::Show => show_option(word),
-        Topic::Check | Topic::Bound | Topic::Audit => log_option(word),
+        Topic::Solve => Some(Options::Start),
+        Topic::Trial | Topic::Resume => Some(Options::Solve),
+        Topic::Patterns => Some(Options::Search),
+        Topic::Explain => Some(Options::Timed),
+        Topic::Prove => Some(Options::Prove),
+        Topic::Rows => Some(Options::Rows),
+        Topic::Show => Some(Options::Show),
+        Topic::Check | Topic::Bound | Topic::Audit => Some(Options::Log),
         _ => None,
+    }
+}
+
+/// What the value of an option is to be, where it is one of these.
+pub(crate) fn role_among(options: Options, word: &str) -> Option<Role>
+    ensures { result ≡ seen.role_among options word.now }
+{
+    match options {
+        Options::Search => search_option(word),
+        Options::Timed => timed_option(word),
+        Options::Solve => solve_option(word),
+        Options::Start => start_option(word),
+        Options::Prove => prove_option(word),
+        Options::Log => log_option(word),
+        Options::Rows => row_option(word),
+        Options::Show => show_option(word),
     }
 }
 
