@@ -7,5 +7,7 @@ pub mod HelpLemmas
 pub mod StandingLemmas
 -- Lemmas on lists:
 pub mod ListLemmas
+-- Lemmas on the numbers of teams of commands:
+pub mod TeamLemmas
 -- Lemmas on which options there are:
 pub mod OptionLemmas

@@ -1,6 +1,6 @@
 //! The words of commands that check logs.
-ghost use Rattle.std.specs.Prelude.{◌≡◌, map, string_bytes, option_map, IfSome};
-ghost use Rattle.command_line.specs.Words.{auditing, bounded_by, checking, HasTeams};
+ghost use Rattle.std.specs.Prelude.{◌≡◌, map, string_bytes, option_map};
+ghost use Rattle.command_line.specs.Words.{auditing, bounded_by, checking};
 ghost use Rattle.command_line.specs.SeenWords.{command_of};
 
 use crate::arguments::{files_with_log, two_files};
@@ -10,8 +10,7 @@ use crate::words::Words;
 
 /// `check` over two files, with its option.
 pub(crate) fn read_check(words: &[String]) -> Option<Words<'_>>
-    ensures reading { option_map command_of result ≡ checking (map string_bytes words.now) }
-    ensures teams { IfSome result (λ command. HasTeams (command_of command)) }
+    ensures { option_map command_of result ≡ checking (map string_bytes words.now) }
 {
     if !has_options(Options::Log, words) {
         return None;
@@ -23,8 +22,7 @@ pub(crate) fn read_check(words: &[String]) -> Option<Words<'_>>
 
 /// `bound` over two files, with its option.
 pub(crate) fn read_bound(words: &[String]) -> Option<Words<'_>>
-    ensures reading { option_map command_of result ≡ bounded_by (map string_bytes words.now) }
-    ensures teams { IfSome result (λ command. HasTeams (command_of command)) }
+    ensures { option_map command_of result ≡ bounded_by (map string_bytes words.now) }
 {
     if !has_options(Options::Log, words) {
         return None;
@@ -36,8 +34,7 @@ pub(crate) fn read_bound(words: &[String]) -> Option<Words<'_>>
 
 /// `audit` over two files, with a number of slots, a log and its option.
 pub(crate) fn read_audit(words: &[String]) -> Option<Words<'_>>
-    ensures reading { option_map command_of result ≡ auditing (map string_bytes words.now) }
-    ensures teams { IfSome result (λ command. HasTeams (command_of command)) }
+    ensures { option_map command_of result ≡ auditing (map string_bytes words.now) }
 {
     if !has_options(Options::Log, words) {
         return None;

@@ -1,7 +1,7 @@
 //! The words of commands that have no options.
-ghost use Rattle.std.specs.Prelude.{◌≡◌, [], ◌∷◌, map, string_bytes, option_map, IfSome};
+ghost use Rattle.std.specs.Prelude.{◌≡◌, [], ◌∷◌, map, string_bytes, option_map};
 ghost use Rattle.command_line.specs.Words as options;
-ghost use Rattle.command_line.specs.Words.{making, parting, HasTeams, plain};
+ghost use Rattle.command_line.specs.Words.{making, parting, plain};
 ghost use Rattle.command_line.specs.SeenWords.{command_of};
 
 use crate::arguments::are_names;
@@ -11,8 +11,7 @@ use crate::words::Words;
 
 /// The command of this name that has no options.
 pub(crate) fn read_plain<'a>(command: &str, words: &'a [String]) -> Option<Words<'a>>
-    ensures reading { option_map command_of result ≡ plain command.now (map string_bytes words.now) }
-    ensures teams { IfSome result (λ command. HasTeams (command_of command)) }
+    ensures { option_map command_of result ≡ plain command.now (map string_bytes words.now) }
 {
     match words {
         [argument] => with_one(command, argument.as_str()),
@@ -23,8 +22,7 @@ pub(crate) fn read_plain<'a>(command: &str, words: &'a [String]) -> Option<Words
 
 /// The command of this name with two arguments.
 fn with_two<'a>(command: &str, first: &'a str, second: &'a str) -> Option<Words<'a>>
-    ensures reading { option_map command_of result ≡ plain command.now (first.now ∷ second.now ∷ []) }
-    ensures teams { IfSome result (λ command. HasTeams (command_of command)) }
+    ensures { option_map command_of result ≡ plain command.now (first.now ∷ second.now ∷ []) }
 {
     match command {
         "make" => make_of(first, second),
@@ -36,8 +34,7 @@ fn with_two<'a>(command: &str, first: &'a str, second: &'a str) -> Option<Words<
 
 /// The command of this name over two files.
 fn over_files<'a>(command: &str, first: &'a str, second: &'a str) -> Option<Words<'a>>
-    ensures reading { option_map command_of result ≡ options.over_files command.now first.now second.now }
-    ensures teams { IfSome result (λ command. HasTeams (command_of command)) }
+    ensures { option_map command_of result ≡ options.over_files command.now first.now second.now }
 {
     match command {
         "validate" => Some(Words::Validate {
@@ -54,8 +51,7 @@ fn over_files<'a>(command: &str, first: &'a str, second: &'a str) -> Option<Word
 
 /// `part` over a file, with a list.
 fn part_of<'a>(file: &'a str, list: &'a str) -> Option<Words<'a>>
-    ensures reading { option_map command_of result ≡ parting file.now list.now }
-    ensures teams { IfSome result (λ command. HasTeams (command_of command)) }
+    ensures { option_map command_of result ≡ parting file.now list.now }
 {
     if !is_name(file) || !is_list(list) {
         return None;
@@ -68,8 +64,7 @@ fn part_of<'a>(file: &'a str, list: &'a str) -> Option<Words<'a>>
 
 /// `make` with a number of teams and a seed.
 fn make_of<'a>(teams: &str, seed: &str) -> Option<Words<'a>>
-    ensures reading { option_map command_of result ≡ making teams.now seed.now }
-    ensures teams { IfSome result (λ command. HasTeams (command_of command)) }
+    ensures { option_map command_of result ≡ making teams.now seed.now }
 {
     let n = team_count(teams)?;
     let seed = number(seed)?;
@@ -78,8 +73,7 @@ fn make_of<'a>(teams: &str, seed: &str) -> Option<Words<'a>>
 
 /// The command of this name with one argument.
 fn with_one<'a>(command: &str, argument: &'a str) -> Option<Words<'a>>
-    ensures reading { option_map command_of result ≡ plain command.now (argument.now ∷ []) }
-    ensures teams { IfSome result (λ command. HasTeams (command_of command)) }
+    ensures { option_map command_of result ≡ plain command.now (argument.now ∷ []) }
 {
     if command != "circle" {
         return None;

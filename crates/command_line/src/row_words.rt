@@ -1,6 +1,6 @@
 //! The words of `rows`.
-ghost use Rattle.std.specs.Prelude.{◌≡◌, [], ◌∷◌, map, string_bytes, option_map, IfSome};
-ghost use Rattle.command_line.specs.Words.{bounding, costing, lowering, HasTeams, rowing};
+ghost use Rattle.std.specs.Prelude.{◌≡◌, [], ◌∷◌, map, string_bytes, option_map};
+ghost use Rattle.command_line.specs.Words.{bounding, costing, lowering, rowing};
 ghost use Rattle.command_line.specs.SeenWords.{command_of};
 
 use crate::arguments::one_file;
@@ -12,8 +12,7 @@ use crate::words::Words;
 
 /// `rows` over one file, with one of its options.
 pub(crate) fn read_rows(words: &[String]) -> Option<Words<'_>>
-    ensures reading { option_map command_of result ≡ rowing (map string_bytes words.now) }
-    ensures teams { IfSome result (λ command. HasTeams (command_of command)) }
+    ensures { option_map command_of result ≡ rowing (map string_bytes words.now) }
 {
     match read_least(words) {
         Some(least) => Some(least),
@@ -23,8 +22,7 @@ pub(crate) fn read_rows(words: &[String]) -> Option<Words<'_>>
 
 /// `rows` over one file, where the objective is to be least.
 fn read_least(words: &[String]) -> Option<Words<'_>>
-    ensures reading { option_map command_of result ≡ lowering (map string_bytes words.now) }
-    ensures teams { IfSome result (λ command. HasTeams (command_of command)) }
+    ensures { option_map command_of result ≡ lowering (map string_bytes words.now) }
 {
     match words {
         [first, second] => least_of_two(first.as_str(), second.as_str()),
@@ -34,8 +32,7 @@ fn read_least(words: &[String]) -> Option<Words<'_>>
 
 /// `rows` where the objective is to be least: one of two words is `--objective`, and the other one is the file.
 fn least_of_two<'a>(first: &'a str, second: &'a str) -> Option<Words<'a>>
-    ensures reading { option_map command_of result ≡ lowering (first.now ∷ second.now ∷ []) }
-    ensures teams { IfSome result (λ command. HasTeams (command_of command)) }
+    ensures { option_map command_of result ≡ lowering (first.now ∷ second.now ∷ []) }
 {
     if second == "--objective" {
         least_of(first)
@@ -48,8 +45,7 @@ fn least_of_two<'a>(first: &'a str, second: &'a str) -> Option<Words<'a>>
 
 /// `rows` over a file, where the objective is to be least.
 fn least_of(instance: &str) -> Option<Words<'_>>
-    ensures reading { option_map command_of result ≡ costing instance.now }
-    ensures teams { IfSome result (λ command. HasTeams (command_of command)) }
+    ensures { option_map command_of result ≡ costing instance.now }
 {
     if is_name(instance) {
         Some(Words::Rows {
@@ -63,8 +59,7 @@ fn least_of(instance: &str) -> Option<Words<'_>>
 
 /// `rows` over one file, with a bound or without.
 fn read_bounded(words: &[String]) -> Option<Words<'_>>
-    ensures reading { option_map command_of result ≡ bounding (map string_bytes words.now) }
-    ensures teams { IfSome result (λ command. HasTeams (command_of command)) }
+    ensures { option_map command_of result ≡ bounding (map string_bytes words.now) }
 {
     if !has_options(Options::Rows, words) {
         return None;

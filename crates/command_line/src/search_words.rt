@@ -1,10 +1,10 @@
 //! The words of commands that search.
-ghost use Rattle.std.specs.Prelude.{◌≡◌, ◌∷◌, map, codes, string_bytes, option_map, IfSome};
+ghost use Rattle.std.specs.Prelude.{◌≡◌, ◌∷◌, map, codes, string_bytes, option_map};
 ghost use Rattle.command_line.specs.Words as options;
 ghost use Rattle.command_line.specs.Words.{arguments_of, explaining};
-ghost use Rattle.command_line.specs.Words.{HasTeams, patterning, proving, resuming, resuming_kept, resuming_near};
+ghost use Rattle.command_line.specs.Words.{patterning, proving, resuming, resuming_kept, resuming_near};
 ghost use Rattle.command_line.specs.Words.{said, solving, starting, trying, values_of};
-ghost use Rattle.command_line.specs.Words.Command.{Circle, Solve};
+ghost use Rattle.command_line.specs.Words.Command.{Solve};
 ghost use Rattle.command_line.specs.SeenWords.{command_of};
 
 use crate::arguments::{files_and_number, near_files_and_number, one_file, one_number, two_files};
@@ -18,8 +18,7 @@ use robin_watch::Budgets;
 
 /// `solve` over one file, with its options.
 pub(crate) fn read_solve(words: &[String]) -> Option<Words<'_>>
-    ensures reading { option_map command_of result ≡ solving (map string_bytes words.now) }
-    ensures teams { IfSome result (λ command. HasTeams (command_of command)) }
+    ensures { option_map command_of result ≡ solving (map string_bytes words.now) }
 {
     if !has_options(Options::Start, words) {
         return None;
@@ -31,9 +30,8 @@ pub(crate) fn read_solve(words: &[String]) -> Option<Words<'_>>
 
 /// `solve` of a file within budgets, from the season that the words name, if any.
 fn solve_said<'a>(words: &'a [String], instance: &'a str, budgets: Budgets) -> Option<Words<'a>>
-    ensures reading { option_map command_of result ≡ said (Solve instance.now budgets) (starting instance.now budgets)
+    ensures { option_map command_of result ≡ said (Solve instance.now budgets) (starting instance.now budgets)
         (values_of (codes "--from") (map string_bytes words.now)) }
-    ensures teams { IfSome result (λ command. HasTeams (command_of command)) }
 {
     match value_of(words, "--from") {
         Standing::Never => Some(Words::Solve { instance, budgets }),
@@ -44,8 +42,7 @@ fn solve_said<'a>(words: &'a [String], instance: &'a str, budgets: Budgets) -> O
 
 /// `solve` of a file within budgets, from the season of another file.
 fn solve_from<'a>(instance: &'a str, solution: &'a str, budgets: Budgets) -> Option<Words<'a>>
-    ensures reading { option_map command_of result ≡ starting instance.now budgets solution.now }
-    ensures teams { IfSome result (λ command. HasTeams (command_of command)) }
+    ensures { option_map command_of result ≡ starting instance.now budgets solution.now }
 {
     if !is_name(solution) {
         return None;
@@ -59,8 +56,7 @@ fn solve_from<'a>(instance: &'a str, solution: &'a str, budgets: Budgets) -> Opt
 
 /// `patterns` over one file, with its option.
 pub(crate) fn read_patterns(words: &[String]) -> Option<Words<'_>>
-    ensures reading { option_map command_of result ≡ patterning (map string_bytes words.now) }
-    ensures teams { IfSome result (λ command. HasTeams (command_of command)) }
+    ensures { option_map command_of result ≡ patterning (map string_bytes words.now) }
 {
     if !has_options(Options::Search, words) {
         return None;
@@ -75,8 +71,7 @@ pub(crate) fn read_patterns(words: &[String]) -> Option<Words<'_>>
 
 /// `explain` over one file, with its options.
 pub(crate) fn read_explain(words: &[String]) -> Option<Words<'_>>
-    ensures reading { option_map command_of result ≡ explaining (map string_bytes words.now) }
-    ensures teams { IfSome result (λ command. HasTeams (command_of command)) }
+    ensures { option_map command_of result ≡ explaining (map string_bytes words.now) }
 {
     if !has_options(Options::Timed, words) {
         return None;
@@ -91,8 +86,7 @@ pub(crate) fn read_explain(words: &[String]) -> Option<Words<'_>>
 
 /// `prove` over two files, with its options.
 pub(crate) fn read_prove(words: &[String]) -> Option<Words<'_>>
-    ensures reading { option_map command_of result ≡ proving (map string_bytes words.now) }
-    ensures teams { IfSome result (λ command. HasTeams (command_of command)) }
+    ensures { option_map command_of result ≡ proving (map string_bytes words.now) }
 {
     if !has_options(Options::Prove, words) {
         return None;
@@ -110,8 +104,7 @@ pub(crate) fn read_prove(words: &[String]) -> Option<Words<'_>>
 
 /// `resume`, near the old plan or not.
 pub(crate) fn read_resume(words: &[String]) -> Option<Words<'_>>
-    ensures reading { option_map command_of result ≡ resuming (map string_bytes words.now) }
-    ensures teams { IfSome result (λ command. HasTeams (command_of command)) }
+    ensures { option_map command_of result ≡ resuming (map string_bytes words.now) }
 {
     match read_near(words) {
         Some(near) => Some(near),
@@ -121,8 +114,7 @@ pub(crate) fn read_resume(words: &[String]) -> Option<Words<'_>>
 
 /// `resume` over two files, with a number of slots, `--near` and its options.
 fn read_near(words: &[String]) -> Option<Words<'_>>
-    ensures reading { option_map command_of result ≡ resuming_near (map string_bytes words.now) }
-    ensures teams { IfSome result (λ command. HasTeams (command_of command)) }
+    ensures { option_map command_of result ≡ resuming_near (map string_bytes words.now) }
 {
     if !has_options(Options::Solve, words) {
         return None;
@@ -139,8 +131,7 @@ fn read_near(words: &[String]) -> Option<Words<'_>>
 
 /// `resume` over two files, with a number of slots and its options.
 fn read_kept(words: &[String]) -> Option<Words<'_>>
-    ensures reading { option_map command_of result ≡ resuming_kept (map string_bytes words.now) }
-    ensures teams { IfSome result (λ command. HasTeams (command_of command)) }
+    ensures { option_map command_of result ≡ resuming_kept (map string_bytes words.now) }
 {
     if !has_options(Options::Timed, words) {
         return None;
@@ -157,8 +148,7 @@ fn read_kept(words: &[String]) -> Option<Words<'_>>
 
 /// `trial` with a number of teams and a seed, and the options of `solve`.
 pub(crate) fn read_trial(words: &[String]) -> Option<Words<'_>>
-    ensures reading { option_map command_of result ≡ trying (map string_bytes words.now) }
-    ensures teams { IfSome result (λ command. HasTeams (command_of command)) }
+    ensures { option_map command_of result ≡ trying (map string_bytes words.now) }
 {
     if !has_options(Options::Solve, words) {
         return None;
@@ -170,8 +160,7 @@ pub(crate) fn read_trial(words: &[String]) -> Option<Words<'_>>
 
 /// The number of teams and the seed among the arguments.
 fn teams_and_seed(words: &[String]) -> Option<(u16, u64)>
-    ensures value { result ≡ options.teams_and_seed (arguments_of (map string_bytes words.now)) }
-    ensures teams { IfSome result (λ made. HasTeams (Circle made.0)) }
+    ensures { result ≡ options.teams_and_seed (arguments_of (map string_bytes words.now)) }
 {
     match words {
         [] => None,
@@ -183,9 +172,7 @@ fn teams_and_seed(words: &[String]) -> Option<(u16, u64)>
 /// A number of teams, with the seed among the arguments behind it.
 #[tactic(auto, unfolding(crate::specs::Words::teams_and_seed))]
 fn with_seed(teams: &str, words: &[String]) -> Option<(u16, u64)>
-    ensures value { result
-        ≡ options.teams_and_seed (teams.now ∷ arguments_of (map string_bytes words.now)) }
-    ensures teams { IfSome result (λ made. HasTeams (Circle made.0)) }
+    ensures { result ≡ options.teams_and_seed (teams.now ∷ arguments_of (map string_bytes words.now)) }
 {
     let n = team_count(teams)?;
     let seed = one_number(words)?;

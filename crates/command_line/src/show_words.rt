@@ -1,6 +1,6 @@
 //! The words of `show`.
-ghost use Rattle.std.specs.Prelude.{◌≡◌, map, string_bytes, option_map, IfSome};
-ghost use Rattle.command_line.specs.Words.{HasTeams, demanding, demanding_all, demanding_some};
+ghost use Rattle.std.specs.Prelude.{◌≡◌, [], ◌∷◌, map, string_bytes, option_map};
+ghost use Rattle.command_line.specs.Words.{demanding};
 ghost use Rattle.command_line.specs.Words.{showing, showing_season};
 ghost use Rattle.command_line.specs.SeenWords.{command_of};
 
@@ -16,8 +16,7 @@ const USUAL_WIDTH: u32 = 80;
 
 /// `show`: what a league demands, or a season.
 pub(crate) fn read_show(words: &[String]) -> Option<Words<'_>>
-    ensures reading { option_map command_of result ≡ showing (map string_bytes words.now) }
-    ensures teams { IfSome result (λ command. HasTeams (command_of command)) }
+    ensures { option_map command_of result ≡ showing (map string_bytes words.now) }
 {
     match read_demands(words) {
         Some(demands) => Some(demands),
@@ -27,24 +26,20 @@ pub(crate) fn read_show(words: &[String]) -> Option<Words<'_>>
 
 /// `show` over one file with `--demands` behind it, and a list or none behind that.
 fn read_demands(words: &[String]) -> Option<Words<'_>>
-    ensures reading { option_map command_of result ≡ demanding (map string_bytes words.now) }
-    ensures teams { IfSome result (λ command. HasTeams (command_of command)) }
+    ensures { option_map command_of result ≡ demanding (map string_bytes words.now) }
 {
     match words {
-        [file, option] if option.as_str() == "--demands" => all_demands(file.as_str()),
-        [file, option, list] if option.as_str() == "--demands" => {
-            some_demands(file.as_str(), list.as_str())
-        }
+        [file, option] => all_demands(file.as_str(), option.as_str()),
+        [file, option, list] => some_demands(file.as_str(), option.as_str(), list.as_str()),
         _ => None,
     }
 }
 
-/// What all constraints of a file demand.
-fn all_demands(file: &str) -> Option<Words<'_>>
-    ensures reading { option_map command_of result ≡ demanding_all file.now }
-    ensures teams { IfSome result (λ command. HasTeams (command_of command)) }
+/// What all constraints of a file demand, where the option behind it asks for that.
+fn all_demands<'a>(file: &'a str, option: &str) -> Option<Words<'a>>
+    ensures { option_map command_of result ≡ demanding (file.now ∷ option.now ∷ []) }
 {
-    if !is_name(file) {
+    if option != "--demands" || !is_name(file) {
         return None;
     }
     Some(Words::Demands {
@@ -53,12 +48,11 @@ fn all_demands(file: &str) -> Option<Words<'_>>
     })
 }
 
-/// What the constraints of a file demand that have the numbers of a list.
-fn some_demands<'a>(file: &'a str, list: &'a str) -> Option<Words<'a>>
-    ensures reading { option_map command_of result ≡ demanding_some file.now list.now }
-    ensures teams { IfSome result (λ command. HasTeams (command_of command)) }
+/// What the constraints of a file demand that have the numbers of a list, where the option before it asks for that.
+fn some_demands<'a>(file: &'a str, option: &str, list: &'a str) -> Option<Words<'a>>
+    ensures { option_map command_of result ≡ demanding (file.now ∷ option.now ∷ list.now ∷ []) }
 {
-    if !is_name(file) || !is_list(list) {
+    if option != "--demands" || !is_name(file) || !is_list(list) {
         return None;
     }
     Some(Words::Demands {
@@ -69,8 +63,7 @@ fn some_demands<'a>(file: &'a str, list: &'a str) -> Option<Words<'a>>
 
 /// `show` over two files, with its options.
 fn read_season(words: &[String]) -> Option<Words<'_>>
-    ensures reading { option_map command_of result ≡ showing_season (map string_bytes words.now) }
-    ensures teams { IfSome result (λ command. HasTeams (command_of command)) }
+    ensures { option_map command_of result ≡ showing_season (map string_bytes words.now) }
 {
     if !has_options(Options::Show, words) {
         return None;

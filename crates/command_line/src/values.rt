@@ -1,8 +1,7 @@
 //! What single words stand for.
-ghost use Rattle.std.specs.Prelude.{◌≡◌, IfSome};
-ghost use Rattle.command_line.specs.Words.{bound_in, budget_in, is_file_name, limit_in, HasTeams, number_in};
+ghost use Rattle.std.specs.Prelude.{◌≡◌};
+ghost use Rattle.command_line.specs.Words.{bound_in, budget_in, is_file_name, limit_in, number_in};
 ghost use Rattle.command_line.specs.Words.{form_in, most_in, small_in, team_count_in, tries_in};
-ghost use Rattle.command_line.specs.Words.Command.{Circle};
 
 use crate::goal::Goal;
 use league::is_team_count;
@@ -102,8 +101,7 @@ pub(crate) fn tries(word: &str) -> Option<u64>
 
 /// The number of teams that a word writes: an even number from 2 to 40.
 pub(crate) fn team_count(word: &str) -> Option<u16>
-    ensures value { result ≡ team_count_in word.now }
-    ensures teams { IfSome result (λ n. HasTeams (Circle n)) }
+    ensures { result ≡ team_count_in word.now }
 {
     let n = number(word)?;
     if is_team_count(n) {

@@ -1,6 +1,7 @@
 //! The words of the command line.
-ghost use Rattle.std.specs.Prelude.{◌≡◌, [], ◌∷◌, map, string_bytes, option_map, IfSome};
-ghost use Rattle.command_line.specs.Words.{asking, following, helping, HasTeams, reading};
+ghost use Rattle.std.specs.Prelude.{◌≡◌, [], ◌∷◌, Some, map, string_bytes, option_map, IfSome};
+ghost use Rattle.command_line.specs.Words.{asking, following, HasTeams, reading};
+ghost use Rattle.command_line.specs.Words.Command.{Help};
 ghost use Rattle.command_line.specs.SeenWords.{command_of};
 ghost use Rattle.command_line.specs.Later.{following_files, following_season};
 
@@ -164,20 +165,21 @@ pub fn read_words(words: &[String]) -> Option<Words<'_>>
 
 /// Help or the version, where the words ask for it.
 fn asked(words: &[String]) -> Option<Words<'_>>
-    ensures reading { option_map command_of result ≡ asking (map string_bytes words.now) }
-    ensures teams { IfSome result (λ command. HasTeams (command_of command)) }
+    ensures { option_map command_of result ≡ asking (map string_bytes words.now) }
 {
     match words {
         [word] => asked_alone(word.as_str()),
-        [first, second] => help_with(first.as_str(), second.as_str()),
+        [first, second] => {
+            let topic = help_with(first.as_str(), second.as_str())?;
+            Some(Words::Help { topic: Some(topic) })
+        }
         _ => None,
     }
 }
 
 /// Help or the version, where this one word asks for it.
 fn asked_alone<'a>(word: &str) -> Option<Words<'a>>
-    ensures reading { option_map command_of result ≡ asking (word.now ∷ []) }
-    ensures teams { IfSome result (λ command. HasTeams (command_of command)) }
+    ensures { option_map command_of result ≡ asking (word.now ∷ []) }
 {
     match word {
         "--help" => Some(Words::Help { topic: None }),
@@ -186,33 +188,22 @@ fn asked_alone<'a>(word: &str) -> Option<Words<'a>>
     }
 }
 
-/// Help on a command, where one of two words is `--help` and the other one the command's name.
-fn help_with<'a>(first: &str, second: &str) -> Option<Words<'a>>
-    ensures reading { option_map command_of result ≡ asking (first.now ∷ second.now ∷ []) }
-    ensures teams { IfSome result (λ command. HasTeams (command_of command)) }
+/// The command on which help is asked for, where one of two words is `--help` and the other one the command's name.
+fn help_with(first: &str, second: &str) -> Option<Topic>
+    ensures { option_map (λ topic. Help (Some topic)) result ≡ asking (first.now ∷ second.now ∷ []) }
 {
     if second == "--help" {
-        help_on(first)
+        topic_of(first)
     } else if first == "--help" {
-        help_on(second)
+        topic_of(second)
     } else {
         None
     }
 }
 
-/// Help on the command of a name.
-fn help_on<'a>(name: &str) -> Option<Words<'a>>
-    ensures reading { option_map command_of result ≡ helping name.now }
-    ensures teams { IfSome result (λ command. HasTeams (command_of command)) }
-{
-    let topic = topic_of(name)?;
-    Some(Words::Help { topic: Some(topic) })
-}
-
 /// The command that the first word names, with the words behind it.
 fn command(words: &[String]) -> Option<Words<'_>>
-    ensures reading { option_map command_of result ≡ following (map string_bytes words.now) }
-    ensures teams { IfSome result (λ command. HasTeams (command_of command)) }
+    ensures { option_map command_of result ≡ following (map string_bytes words.now) }
 {
     match words {
         [] => None,
@@ -222,8 +213,7 @@ fn command(words: &[String]) -> Option<Words<'_>>
 
 /// The command of this name with its words.
 fn follow<'a>(command: &str, words: &'a [String]) -> Option<Words<'a>>
-    ensures reading { option_map command_of result ≡ following (command.now ∷ map string_bytes words.now) }
-    ensures teams { IfSome result (λ command. HasTeams (command_of command)) }
+    ensures { option_map command_of result ≡ following (command.now ∷ map string_bytes words.now) }
 {
     match command {
         "solve" => read_solve(words),
@@ -236,8 +226,7 @@ fn follow<'a>(command: &str, words: &'a [String]) -> Option<Words<'a>>
 
 /// The command of this name with its words, where it is none of the four that `follow` knows.
 fn follow_season<'a>(command: &str, words: &'a [String]) -> Option<Words<'a>>
-    ensures reading { option_map command_of result ≡ following_season command.now (map string_bytes words.now) }
-    ensures teams { IfSome result (λ command. HasTeams (command_of command)) }
+    ensures { option_map command_of result ≡ following_season command.now (map string_bytes words.now) }
 {
     match command {
         "resume" => read_resume(words),
@@ -250,8 +239,7 @@ fn follow_season<'a>(command: &str, words: &'a [String]) -> Option<Words<'a>>
 
 /// The command of this name with its words, where it is none that `follow` and `follow_season` know.
 fn follow_files<'a>(command: &str, words: &'a [String]) -> Option<Words<'a>>
-    ensures reading { option_map command_of result ≡ following_files command.now (map string_bytes words.now) }
-    ensures teams { IfSome result (λ command. HasTeams (command_of command)) }
+    ensures { option_map command_of result ≡ following_files command.now (map string_bytes words.now) }
 {
     if command == "show" {
         read_show(words)
