@@ -41,11 +41,12 @@ impl Aim {
 /// The front of a line, with the comma before what the run does.
 impl fmt::Display for Aim {
     fn fmt<W: fmt::Write>(&self, f: &mut fmt::Formatter<W>) -> fmt::Result {
-        match *self {
-            Aim::Season => Ok(()),
-            Aim::Try { number } => write!(f, "try {number}, "),
-            Aim::Bound { objective } => write!(f, "proving at least {objective}, "),
-            Aim::Member { left } => write!(f, "{left} members still to be tried, "),
-        }
+        let (before, number, behind) = match *self {
+            Aim::Season => return Ok(()),
+            Aim::Try { number } => ("try ", number, ""),
+            Aim::Bound { objective } => ("proving at least ", objective, ""),
+            Aim::Member { left } => ("", left, " members still to be tried"),
+        };
+        write!(f, "{before}{number}{behind}, ")
     }
 }
