@@ -2,6 +2,7 @@
 ghost use Rattle.std.specs.Prelude.{◌≡◌, true, nat_lt, MatchOption};
 ghost use Rattle.robin_host.specs.KeeperFields.{watch_of};
 
+use crate::clock::passed_since;
 use crate::draft::Draft;
 use crate::season::Season;
 use league::{Game, League};
@@ -52,20 +53,9 @@ impl<'a, W, R: Clock + Files> SeasonKeeper<'a, W, R> {
         }
     }
 
-    /// How many milliseconds have passed since the watch began; the greatest number if the clock can't be read.
-    fn passed(&self) -> u128 {
-        let Some(start) = self.start else {
-            return u128::MAX;
-        };
-        match start.elapsed(&self.rt) {
-            Ok(passed) => passed.as_millis(),
-            Err(_) => u128::MAX,
-        }
-    }
-
     /// Whether a season may be put into the file again.
     fn is_due(&self) -> bool {
-        let passed = self.passed();
+        let passed = passed_since(&self.rt, self.start);
         let due = match self.last.get() {
             Some(last) => passed >= last.saturating_add(PAUSE),
             None => true,

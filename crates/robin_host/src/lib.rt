@@ -6,6 +6,7 @@
 
 mod aim;
 mod bar;
+mod clock;
 mod draft;
 mod handing;
 mod heard;

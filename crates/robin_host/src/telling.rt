@@ -1,7 +1,7 @@
 //! Who is told how a run goes, and how often.
 
 /// Who is told how a run goes.
-#[derive(Clone, Copy, Debug, PartialEq, Eq)]
+#[derive(Clone, Copy)]
 pub enum Telling {
     /// Nobody.
     Nobody,

@@ -2,6 +2,7 @@
 ghost use Rattle.std.specs.Prelude.{◌≡◌, ◌⊎◌, IsSome, true};
 ghost use Rattle.robin_host.specs.Fields.{limit_of, listens};
 
+use crate::clock::passed_since;
 use crate::heard::Heard;
 use crate::line::Line;
 use crate::signals::{is_blocked, is_waiting};
@@ -57,20 +58,9 @@ impl<R: Clock + Files + Eprint> HostWatch<R> {
         }
     }
 
-    /// How many milliseconds have passed since the watch began; the greatest number if the clock can't be read.
-    fn passed(&self) -> u128 {
-        let Some(start) = self.start else {
-            return u128::MAX;
-        };
-        match start.elapsed(&self.rt) {
-            Ok(passed) => passed.as_millis(),
-            Err(_) => u128::MAX,
-        }
-    }
-
     /// Whether the time is over, or a signal waits.
     fn is_time(&self) -> bool {
-        let passed = self.passed();
+        let passed = passed_since(&self.rt, self.start);
         if let Some(seconds) = self.seconds
             && passed >= u128::from(seconds).saturating_mul(1000)
         {
@@ -114,14 +104,14 @@ impl<R: Clock + Files + Eprint> HostWatch<R> {
             heard,
             passed,
             seconds: self.seconds,
-            bars: self.telling == Telling::Terminal,
+            bars: matches!(self.telling, Telling::Terminal),
         };
         let _ = eprint!(self.rt; "{front}{line}{end}");
     }
 
     /// Wipes the line of a terminal, before the answer may come there.
     fn wipe(&self) {
-        if self.telling == Telling::Terminal && self.told.get() > 0 {
+        if matches!(self.telling, Telling::Terminal) && self.told.get() > 0 {
             let _ = eprint!(self.rt; "\r\x1b[K");
         }
     }
@@ -152,10 +142,10 @@ impl<R: Clock + Files + Eprint> Watch for HostWatch<R> {
     }
 
     fn tell(&self, news: News) {
-        if self.telling == Telling::Nobody {
+        if matches!(self.telling, Telling::Nobody) {
             return;
         }
-        let passed = self.passed();
+        let passed = passed_since(&self.rt, self.start);
         let heard = self.heard.get().with_news(news, passed);
         match news {
             News::Ready => self.wipe(),
@@ -168,10 +158,10 @@ impl<R: Clock + Files + Eprint> Watch for HostWatch<R> {
 
 impl<R: Clock + Files + Eprint> Listener for HostWatch<R> {
     fn tell_season(&self, _league: &League, _games: &[Game], objective: u128, tried: u64) {
-        if self.telling == Telling::Nobody {
+        if matches!(self.telling, Telling::Nobody) {
             return;
         }
-        let passed = self.passed();
+        let passed = passed_since(&self.rt, self.start);
         let heard = self.heard.get().with_season(objective, tried, passed);
         self.say(heard, passed);
     }
