@@ -5,6 +5,7 @@
 //! that at most one of the group is true, is one: all of the group cancels, and the degree with it.
 use crate::draft::Draft;
 use crate::groups::{Groups, groups_of};
+use crate::lists::set_at;
 use crate::parts::Parts;
 use rows::{Lit, RowStore};
 use std::alloc::{AllocError, Global};
@@ -61,28 +62,24 @@ impl Axioms {
         Ok(())
     }
 
-    /// The number of the row that a literal counts at least 0. It is planned where it isn't there yet. None where it can't
-    /// be.
+    /// The number of the row that a literal counts at least 0. It is planned where it isn't there yet. Where it can't be,
+    /// the answer is 0, and the draft lacks a row.
     ///
     /// # Errors
     /// Only where memory runs out.
-    pub(crate) fn number(
-        &mut self,
-        draft: &mut Draft,
-        lit: Lit,
-    ) -> Result<Option<u64>, AllocError> {
+    pub(crate) fn number(&mut self, draft: &mut Draft, lit: Lit) -> Result<u64, AllocError> {
         if self.first.is_empty() {
-            return Ok(None);
+            draft.lacks_row = true;
+            return Ok(0);
         }
         let slot = lit.var() as usize * 2 + usize::from(!lit.positive());
-        let mut number = self.numbers.get(slot).copied().unwrap_or(0);
-        if number == 0 {
-            number = self.derive(draft, lit)?;
-            if let Some(at) = self.numbers.get_mut(slot) {
-                *at = number;
-            }
+        let known = self.numbers.get(slot).copied().unwrap_or(0);
+        if known > 0 {
+            return Ok(known);
         }
-        Ok(Some(number))
+        let number = self.derive(draft, lit)?;
+        set_at(&mut self.numbers, slot, number);
+        Ok(number)
     }
 
     /// Plans the steps of a literal's row. The answer is the row's number.

@@ -5,6 +5,7 @@ ghost use Rattle.std.specs.List.{fold};
 ghost use Rattle.planes.specs.Coefs.{AreAtMost, coef_of, count_divided, counts_divided};
 ghost use Rattle.planes.specs.Numbers.{size_of};
 
+use crate::lists::set_at;
 use crate::numbers::{as_signed, divided, size};
 use rows::Lit;
 use std::alloc::{AllocError, Global};
@@ -197,11 +198,7 @@ fn divided_count(count: i64, divisor: i64) -> i64
 fn clear_touched(coefs: &mut [i64], listed: &mut [bool], touched: &[Lit]) {
     for lit in touched {
         let at = lit.var() as usize;
-        if let Some(coef) = coefs.get_mut(at) {
-            *coef = 0;
-        }
-        if let Some(is_listed) = listed.get_mut(at) {
-            *is_listed = false;
-        }
+        set_at(coefs, at, 0);
+        set_at(listed, at, false);
     }
 }

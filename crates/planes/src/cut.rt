@@ -125,12 +125,9 @@ fn resolve(
         place,
     };
     tools.reason.load(held)?;
-    if !tools
+    tools
         .reason
-        .divide(trail, &mut tools.draft, &mut tools.axioms, &point)?
-    {
-        return Ok(false);
-    }
+        .divide(trail, &mut tools.draft, &mut tools.axioms, &point)?;
     let times = tools.plane.counts.coef(entry.lit.negate());
     tools.plane.add_reason(trail, times, &tools.reason)?;
     raise_false(trail, order, &tools.reason.terms, place);
@@ -160,14 +157,12 @@ fn make_small(trail: &Trail, tools: &mut Tools, place: usize) -> Result<bool, Al
         return Ok(true);
     }
     let divisor = divided(tools.plane.counts.greatest(), LARGE);
-    if !weaken_open(trail, tools, Moment::Before { place }, divisor)? {
-        return Ok(false);
-    }
+    weaken_open(trail, tools, Moment::Before { place }, divisor)?;
     tools.plane.divide(&mut tools.draft, divisor)?;
     Ok(!tools.plane.counts.is_too_large())
 }
 
-/// Weakens all of the row that wasn't false at a moment to multiples of the divisor. It says whether it could.
+/// Weakens all of the row that wasn't false at a moment to multiples of the divisor.
 ///
 /// # Errors
 /// Only where memory runs out.
@@ -176,27 +171,23 @@ pub(crate) fn weaken_open(
     tools: &mut Tools,
     moment: Moment,
     divisor: i64,
-) -> Result<bool, AllocError> {
+) -> Result<(), AllocError> {
     for k in 0..tools.plane.counts.len() {
-        let Some((lit, coef)) = tools.plane.counts.term(k) else {
-            continue;
-        };
-        let less = open_rest(trail, moment, lit, coef, divisor);
-        if less > 0 && !weaken(tools, lit, less)? {
-            return Ok(false);
+        if let Some((lit, coef)) = tools.plane.counts.term(k) {
+            weaken(tools, lit, open_rest(trail, moment, lit, coef, divisor))?;
         }
     }
-    Ok(true)
+    Ok(())
 }
 
-/// Takes so much off what a literal counts, and says whether it could.
+/// Takes so much off what a literal counts, if any.
 ///
 /// # Errors
 /// Only where memory runs out.
-pub(crate) fn weaken(tools: &mut Tools, lit: Lit, less: i64) -> Result<bool, AllocError> {
-    let Some(axiom) = tools.axioms.number(&mut tools.draft, lit.negate())? else {
-        return Ok(false);
-    };
-    tools.plane.weaken(lit, less, axiom)?;
-    Ok(true)
+pub(crate) fn weaken(tools: &mut Tools, lit: Lit, less: i64) -> Result<(), AllocError> {
+    if less <= 0 {
+        return Ok(());
+    }
+    let axiom = tools.axioms.number(&mut tools.draft, lit.negate())?;
+    tools.plane.weaken(lit, less, axiom)
 }

@@ -109,13 +109,25 @@ impl Desk {
         ensures level { OnOk result (level_of self.new.trail ≡ min level (level_of self.old.trail)) }
         ensures tools { self.new.tools ≡ self.old.tools }
     {
-        'entries: while let Some((lit, did_count)) = self.trail.pop_above(level) {
-            if did_count {
-                self.stock.count_back(lit);
-            }
-            self.order.release(lit)?;
+        'entries: for _entry in self.trail.end_of(level)..self.trail.len() {
+            self.take_back()?;
         }
+        self.trail.leave(level);
         Ok(())
+    }
+
+    /// Takes the last entry of the trail back.
+    fn take_back(&mut self) -> Result<(), AllocError>
+        ensures level { level_of self.new.trail ≡ level_of self.old.trail }
+        ensures tools { self.new.tools ≡ self.old.tools }
+    {
+        let Some((lit, did_count)) = self.trail.pop() else {
+            return Ok(());
+        };
+        if did_count {
+            self.stock.count_back(lit);
+        }
+        self.order.release(lit)
     }
 
     /// Plans the steps of what is true at level 0.

@@ -12,12 +12,18 @@ use std::mem;
 pub(crate) struct Draft {
     steps: Log,
     rows: u64,
+    /// Whether a step would need a row that can't be had. The draft comes to nothing then.
+    pub(crate) lacks_row: bool,
 }
 
 impl Draft {
     /// A draft of some steps that are to come behind so many rows.
     pub(crate) fn new(steps: Log, rows: u64) -> Draft {
-        Draft { steps, rows }
+        Draft {
+            steps,
+            rows,
+            lacks_row: false,
+        }
     }
 
     /// The steps, which are taken out.

@@ -87,23 +87,31 @@ fn learnt_row(
     plane: &Plane,
     levels: &mut Vec<usize>,
 ) -> Result<Option<Held>, AllocError> {
-    let mut terms = Vec::new(alloc);
-    for k in 0..plane.counts.len() {
-        let Some((lit, count)) = plane.counts.term(k) else {
-            continue;
-        };
-        let Ok(coef) = u32::try_from(count) else {
-            return Ok(None);
-        };
-        terms.push(Term { coef, lit })?;
-    }
-    let levels = count_levels(trail, &terms, levels)?;
-    Ok(Some(Held {
-        terms,
+    let mut held = Held {
+        terms: Vec::new(alloc),
         degree: plane.degree,
         number: plane.number(),
-        levels,
-    }))
+        levels: 1,
+    };
+    if take_terms(plane, &mut held.terms)? {
+        held.levels = count_levels(trail, &held.terms, levels)?;
+        Ok(Some(held))
+    } else {
+        Ok(None)
+    }
+}
+
+/// Takes the terms of a row, and says whether their coefficients are of 32 bits.
+fn take_terms(plane: &Plane, terms: &mut Vec<Term>) -> Result<bool, AllocError> {
+    for k in 0..plane.counts.len() {
+        if let Some((lit, count)) = plane.counts.term(k) {
+            let Ok(coef) = u32::try_from(count) else {
+                return Ok(false);
+            };
+            terms.push(Term { coef, lit })?;
+        }
+    }
+    Ok(true)
 }
 
 /// From how many levels the false literals of a row come, and at least 1.
@@ -119,13 +127,6 @@ fn count_levels(
         }
     }
     levels.sort_unstable();
-    let mut count: usize = 1;
-    let mut last = None;
-    for level in levels.as_slice() {
-        if last.is_some() && last != Some(*level) {
-            count = count.saturating_add(1);
-        }
-        last = Some(*level);
-    }
-    Ok(count)
+    levels.dedup();
+    Ok(levels.len().max(1))
 }

@@ -15,6 +15,7 @@ mod desk;
 mod draft;
 mod groups;
 mod learn;
+mod lists;
 mod numbers;
 mod order;
 mod parts;

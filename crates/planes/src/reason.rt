@@ -74,7 +74,7 @@ impl Reason {
     }
 
     /// Divides the row by what it counts of the literal that it forces. Before that all that wasn't false is weakened to
-    /// multiples, and as much of what was false as leaves the degree. It says whether it could.
+    /// multiples, and as much of what was false as leaves the degree.
     ///
     /// # Errors
     /// Only where memory runs out.
@@ -84,22 +84,20 @@ impl Reason {
         draft: &mut Draft,
         axioms: &mut Axioms,
         point: &Point,
-    ) -> Result<bool, AllocError> {
+    ) -> Result<(), AllocError> {
         let divisor = self.coef(point.lit);
         if divisor <= 1 {
-            return Ok(divisor == 1);
+            return Ok(());
         }
         self.parts.begin(self.number)?;
-        let could = self.weaken_open(trail, draft, axioms, point, divisor)?;
-        if !could || !self.weaken_false(draft, axioms, point.lit, divisor)? {
-            return Ok(false);
-        }
+        self.weaken_open(trail, draft, axioms, point, divisor)?;
+        self.weaken_false(draft, axioms, point.lit, divisor)?;
         self.number = draft.plan_sum(&self.parts, as_divisor(divisor))?;
         self.divide_all(divisor);
-        Ok(true)
+        Ok(())
     }
 
-    /// Weakens all that wasn't false before the place to multiples of the divisor. It says whether it could.
+    /// Weakens all that wasn't false before the place to multiples of the divisor.
     fn weaken_open(
         &mut self,
         trail: &Trail,
@@ -107,18 +105,15 @@ impl Reason {
         axioms: &mut Axioms,
         point: &Point,
         divisor: i64,
-    ) -> Result<bool, AllocError> {
+    ) -> Result<(), AllocError> {
         let moment = Moment::Before { place: point.place };
         for at in 0..self.terms.len() {
-            let Some(Scaled { lit, coef }) = self.terms.get(at).copied() else {
-                return Ok(false);
-            };
-            let less = open_rest(trail, moment, lit, coef, divisor);
-            if less > 0 && !self.weaken(draft, axioms, at, less)? {
-                return Ok(false);
+            if let Some(Scaled { lit, coef }) = self.terms.get(at).copied() {
+                let less = open_rest(trail, moment, lit, coef, divisor);
+                self.weaken(draft, axioms, at, less)?;
             }
         }
-        Ok(true)
+        Ok(())
     }
 
     /// Divides what each literal counts and the degree, rounding up.
@@ -137,50 +132,61 @@ impl Reason {
         axioms: &mut Axioms,
         forced: Lit,
         divisor: i64,
-    ) -> Result<bool, AllocError> {
-        let mut spare = rest(self.degree.saturating_sub(1), divisor);
-        for pass in 0..2 {
-            for at in 0..self.terms.len() {
-                let Some(Scaled { lit, coef }) = self.terms.get(at).copied() else {
-                    return Ok(false);
-                };
-                let less = rest(coef, divisor);
-                let is_in_turn = pass == 1 || coef < divisor;
-                if less == 0 || less > spare || lit == forced || !is_in_turn {
-                    continue;
-                }
-                if !self.weaken(draft, axioms, at, less)? {
-                    return Ok(false);
-                }
-                spare = spare.saturating_sub(less);
-            }
-        }
-        Ok(true)
+    ) -> Result<(), AllocError> {
+        self.weaken_up_to(draft, axioms, forced, divisor, divisor.saturating_sub(1))?;
+        self.weaken_up_to(draft, axioms, forced, divisor, i64::MAX)
     }
 
-    /// Takes so much off the kth term. It says whether it could.
+    /// Weakens literals that count at most so much to multiples of the divisor while the divided degree stays.
+    fn weaken_up_to(
+        &mut self,
+        draft: &mut Draft,
+        axioms: &mut Axioms,
+        forced: Lit,
+        divisor: i64,
+        most: i64,
+    ) -> Result<(), AllocError> {
+        for at in 0..self.terms.len() {
+            let less = self.spare_rest(at, forced, divisor, most);
+            self.weaken(draft, axioms, at, less)?;
+        }
+        Ok(())
+    }
+
+    /// What a term counts more than a multiple of the divisor; but 0 for the forced literal, for a term that counts more
+    /// than `most`, and where the divided degree would be less without it.
+    fn spare_rest(&self, at: usize, forced: Lit, divisor: i64, most: i64) -> i64 {
+        let Some(Scaled { lit, coef }) = self.terms.get(at).copied() else {
+            return 0;
+        };
+        let less = rest(coef, divisor);
+        let spare = rest(self.degree.saturating_sub(1), divisor);
+        if lit == forced || coef > most || less > spare {
+            0
+        } else {
+            less
+        }
+    }
+
+    /// Takes so much off the term at a place, if any.
     fn weaken(
         &mut self,
         draft: &mut Draft,
         axioms: &mut Axioms,
-        k: usize,
+        at: usize,
         less: i64,
-    ) -> Result<bool, AllocError> {
-        let Some(Scaled { lit, coef }) = self.terms.get(k).copied() else {
-            return Ok(false);
-        };
-        let Some(axiom) = axioms.number(draft, lit.negate())? else {
-            return Ok(false);
-        };
-        self.parts.add(less, axiom)?;
-        self.degree = self.degree.saturating_sub(less);
-        if let Some(term) = self.terms.get_mut(k) {
-            *term = Scaled {
-                lit,
-                coef: coef.saturating_sub(less),
-            };
+    ) -> Result<(), AllocError> {
+        if at >= self.terms.len() || less <= 0 {
+            return Ok(());
         }
-        Ok(true)
+        let Scaled { lit, coef } = self.terms[at];
+        self.terms[at] = Scaled {
+            lit,
+            coef: coef.saturating_sub(less),
+        };
+        self.degree = self.degree.saturating_sub(less);
+        let axiom = axioms.number(draft, lit.negate())?;
+        self.parts.add(less, axiom)
     }
 }
 

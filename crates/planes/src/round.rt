@@ -8,6 +8,7 @@ use crate::cut::{weaken, weaken_open};
 use crate::desk::Tools;
 use crate::numbers::rest;
 use crate::trail::{Moment, Standing, Trail};
+use rows::Lit;
 use std::alloc::AllocError;
 
 /// Makes the row short, and plans its step. The answer is the lowest level at whose end it isn't quiet, if there is one
@@ -19,15 +20,13 @@ pub(crate) fn round(trail: &Trail, tools: &mut Tools) -> Result<Option<usize>, A
     ensures active { IfOk result (λ found. IfSome found (IsActive tools.new.plane trail.now)) }
     ensures below { IfOk result (λ found. IfSome found (λ level. level < level_of trail.now)) }
 {
-    if !drop_decided(trail, tools)? {
-        return Ok(None);
-    }
+    drop_decided(trail, tools)?;
     let Some(level) = first_active(trail, tools) else {
         return Ok(None);
     };
     let divisor = forcing_coef(tools);
-    if divisor > 1 && !weaken_all(trail, tools, level, divisor)? {
-        return Ok(None);
+    if divisor > 1 {
+        weaken_all(trail, tools, level, divisor)?;
     }
     let common = tools.plane.common_divisor(divisor);
     tools
@@ -39,29 +38,23 @@ pub(crate) fn round(trail: &Trail, tools: &mut Tools) -> Result<Option<usize>, A
     Ok(first_active(trail, tools))
 }
 
-/// Takes the literals of level 0 out. It says whether it could.
-fn drop_decided(trail: &Trail, tools: &mut Tools) -> Result<bool, AllocError> {
+/// Takes the literals of level 0 out.
+fn drop_decided(trail: &Trail, tools: &mut Tools) -> Result<(), AllocError> {
     for k in 0..tools.plane.counts.len() {
-        let Some((lit, coef)) = tools.plane.counts.term(k) else {
-            continue;
-        };
-        match trail.standing(lit) {
-            Standing::True { level: 0 } => {
-                if !weaken(tools, lit, coef)? {
-                    return Ok(false);
-                }
-            }
-            Standing::False { level: 0, .. } => {
-                let unit = tools.units.number(lit);
-                if unit == 0 {
-                    return Ok(false);
-                }
-                tools.plane.take_out(lit, unit)?;
-            }
-            _ => {}
+        if let Some((lit, coef)) = tools.plane.counts.term(k) {
+            drop_literal(trail, tools, lit, coef)?;
         }
     }
-    Ok(true)
+    Ok(())
+}
+
+/// Takes a literal that counts so much out if it is of level 0.
+fn drop_literal(trail: &Trail, tools: &mut Tools, lit: Lit, coef: i64) -> Result<(), AllocError> {
+    match trail.standing(lit) {
+        Standing::True { level: 0 } => weaken(tools, lit, coef),
+        Standing::False { level: 0, .. } => tools.plane.take_out(lit, tools.units.number(lit)),
+        _ => Ok(()),
+    }
 }
 
 /// The lowest level at whose end the row isn't quiet, if there is one below the present level.
@@ -89,31 +82,26 @@ fn forcing_coef(tools: &Tools) -> i64 {
 }
 
 /// Weakens the row so that it can be divided: each literal that isn't false at the end of a level to a multiple of the
-/// divisor, and false ones while the divided degree stays. It says whether it could.
+/// divisor, and false ones while the divided degree stays.
 fn weaken_all(
     trail: &Trail,
     tools: &mut Tools,
     level: usize,
     divisor: i64,
-) -> Result<bool, AllocError> {
-    let could = weaken_open(trail, tools, Moment::EndOf { level }, divisor)?;
-    Ok(could && weaken_spare(tools, divisor)?)
+) -> Result<(), AllocError> {
+    weaken_open(trail, tools, Moment::EndOf { level }, divisor)?;
+    weaken_spare(tools, divisor)
 }
 
-/// Weakens literals of the row to multiples of the divisor while the divided degree stays, and says whether it could.
-fn weaken_spare(tools: &mut Tools, divisor: i64) -> Result<bool, AllocError> {
-    let mut spare = rest(tools.plane.degree.saturating_sub(1), divisor);
+/// Weakens literals of the row to multiples of the divisor while the divided degree stays.
+fn weaken_spare(tools: &mut Tools, divisor: i64) -> Result<(), AllocError> {
     for k in 0..tools.plane.counts.len() {
-        let Some((lit, coef)) = tools.plane.counts.term(k) else {
-            continue;
-        };
-        let less = rest(coef, divisor);
-        if less > 0 && less <= spare {
-            if !weaken(tools, lit, less)? {
-                return Ok(false);
+        if let Some((lit, coef)) = tools.plane.counts.term(k) {
+            let less = rest(coef, divisor);
+            if less <= rest(tools.plane.degree.saturating_sub(1), divisor) {
+                weaken(tools, lit, less)?;
             }
-            spare = spare.saturating_sub(less);
         }
     }
-    Ok(true)
+    Ok(())
 }

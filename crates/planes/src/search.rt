@@ -123,6 +123,16 @@ fn meet(alloc: Global, desk: &mut Desk, row: usize) -> Result<Met, AllocError> {
         return Ok(Met::Refuted);
     }
     desk.order.age();
+    let met = analyze(alloc, desk, row)?;
+    if desk.tools.draft.lacks_row {
+        Ok(Met::Nothing)
+    } else {
+        Ok(met)
+    }
+}
+
+/// What comes of the row in conflict at a place above level 0.
+fn analyze(alloc: Global, desk: &mut Desk, row: usize) -> Result<Met, AllocError> {
     let outcome = cut(
         &desk.stock,
         &desk.trail,

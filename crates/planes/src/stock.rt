@@ -151,9 +151,9 @@ impl Stock {
         if let Some(list) = self.spots.get(slot(lit.negate())) {
             count_off(list, &mut self.counts, &mut self.active)?;
         }
-        for place in &self.active {
-            let at = *place as usize;
-            if force(&self.held, &self.counts, at, trail)? {
+        for k in 0..self.active.len() {
+            let at = self.active[k] as usize;
+            if self.force(trail, at)? {
                 return Ok(Some(at));
             }
         }
@@ -165,7 +165,18 @@ impl Stock {
     /// # Errors
     /// Only where memory runs out.
     pub(crate) fn force(&self, trail: &mut Trail, at: usize) -> Result<bool, AllocError> {
-        force(&self.held, &self.counts, at, trail)
+        let (Some(row), Some(count)) = (self.held.get(at), self.counts.get(at)) else {
+            return Ok(false);
+        };
+        if count.slack < 0 {
+            return Ok(true);
+        }
+        for term in &row.terms {
+            if i64::from(term.coef) > count.slack && matches!(trail.value(term.lit), Value::Free) {
+                trail.push(term.lit, Some(at))?;
+            }
+        }
+        Ok(false)
     }
 
     /// The entry of a literal counts no longer.
@@ -268,32 +279,6 @@ fn count_on(spots: &[Spot], counts: &mut [Count]) {
             count.slack = count.slack.saturating_add(i64::from(place.coef));
         }
     }
-}
-
-/// Makes what the row at a place forces true, and says whether it is in conflict.
-fn force(
-    held: &[Held],
-    counts: &[Count],
-    at: usize,
-    trail: &mut Trail,
-) -> Result<bool, AllocError> {
-    let Some(row) = held.get(at) else {
-        return Ok(false);
-    };
-    let Some(count) = counts.get(at) else {
-        return Ok(false);
-    };
-    if count.slack < 0 {
-        return Ok(true);
-    }
-    for term in &row.terms {
-        if i64::from(term.coef) > count.slack {
-            if let Value::Free = trail.value(term.lit) {
-                trail.push(term.lit, Some(at))?;
-            }
-        }
-    }
-    Ok(false)
 }
 
 /// Whether the row at a place is the reason of an entry.

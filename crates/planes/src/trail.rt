@@ -1,8 +1,9 @@
 //! The literals that are true at a point of the search, in the order in which they became so.
-ghost use Rattle.std.specs.Prelude.{◌≡◌, ◌+◌, min, length, slice_get, IfNone, OnSome};
+ghost use Rattle.std.specs.Prelude.{◌≡◌, min, length, slice_get};
 ghost use Rattle.rows.specs.Partials.{opposite_of, value_of};
 ghost use Rattle.planes.specs.Trails.{is_false_at, level_of, side_at, standing_of, valued};
 
+use crate::lists::set_at;
 use rows::{Lit, Value};
 use std::alloc::{AllocError, Global};
 
@@ -161,10 +162,8 @@ impl Trail {
         } else {
             Value::False
         };
-        if at < self.values.len() && at < self.places.len() {
-            self.values[at] = value;
-            self.places[at] = place;
-        }
+        set_at(&mut self.values, at, value);
+        set_at(&mut self.places, at, place);
         self.entries.push(Entry { lit, level, reason })?;
         Ok(())
     }
@@ -179,26 +178,29 @@ impl Trail {
         self.push(lit, None)
     }
 
-    /// Takes the last entry off, if it is above a level. It says whether the entry counted. Where none is above the level, its
-    /// end is the present one.
-    pub(crate) fn pop_above(&mut self, level: usize) -> Option<(Lit, bool)>
-        ensures taken { OnSome result (length self.new.entries.items + 1 ≡ length self.old.entries.items) }
-        ensures same_level { OnSome result (level_of self.new ≡ level_of self.old) }
-        ensures at_level { IfNone result (level_of self.new ≡ min level (level_of self.old)) }
+    /// How many entries there are up to the end of a level.
+    pub(crate) fn end_of(&self, level: usize) -> usize {
+        let end = self.decisions.get(level).copied();
+        end.unwrap_or(self.entries.len())
+    }
+
+    /// Takes the last entry off, if there is one. It says whether the entry counted.
+    pub(crate) fn pop(&mut self) -> Option<(Lit, bool)>
+        ensures { level_of self.new ≡ level_of self.old }
     {
-        let end = self.decisions.get(level).copied()?;
-        if self.entries.len() <= end {
-            self.decisions.truncate(level);
-            return None;
-        }
         let entry = self.entries.pop()?;
-        if let Some(value) = self.values.get_mut(entry.lit.var() as usize) {
-            *value = Value::Free;
-        }
+        set_at(&mut self.values, entry.lit.var() as usize, Value::Free);
         let place = self.entries.len();
         let did_count = place < self.counted;
         self.counted = self.counted.min(place);
         Some((entry.lit, did_count))
+    }
+
+    /// Leaves the levels above this one, none of which has an entry any more.
+    pub(crate) fn leave(&mut self, level: usize)
+        ensures { level_of self.new ≡ min level (level_of self.old) }
+    {
+        self.decisions.truncate(level);
     }
 }
 

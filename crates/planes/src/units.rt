@@ -1,5 +1,6 @@
 //! Clauses of the literals of level 0.
 use crate::draft::Draft;
+use crate::lists::set_at;
 use crate::stock::Stock;
 use crate::trail::{Moment, Trail};
 use rows::Lit;
@@ -43,20 +44,12 @@ impl Units {
         draft: &mut Draft,
     ) -> Result<(), AllocError> {
         for place in self.planned..trail.len() {
-            let Some(entry) = trail.entry(place) else {
+            let Some((lit, reason)) = unit_at(trail, place) else {
                 return Ok(());
             };
-            let Some(reason) = entry.reason else {
-                return Ok(());
-            };
-            if entry.level > 0 {
-                return Ok(());
-            }
             self.find_hints(trail, stock, reason, place)?;
-            let number = draft.plan_clause(&[entry.lit], &self.hints)?;
-            if let Some(at) = self.numbers.get_mut(entry.lit.var() as usize) {
-                *at = number;
-            }
+            let number = draft.plan_clause(&[lit], &self.hints)?;
+            set_at(&mut self.numbers, lit.var() as usize, number);
             self.planned = place.saturating_add(1);
         }
         Ok(())
@@ -101,4 +94,14 @@ impl Units {
         self.hints.push(held.number)?;
         Ok(())
     }
+}
+
+/// The literal of the entry at a place, and the place of the row that forced it, if it is of level 0.
+fn unit_at(trail: &Trail, place: usize) -> Option<(Lit, usize)> {
+    let entry = trail.entry(place)?;
+    let reason = entry.reason?;
+    if entry.level > 0 {
+        return None;
+    }
+    Some((entry.lit, reason))
 }

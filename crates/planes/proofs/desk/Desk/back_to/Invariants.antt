@@ -1,4 +1,4 @@
-use Rattle.std.proofs.Common.{◌≡◌, length}
+use Rattle.std.proofs.Common.{◌≡◌}
 use Rattle.planes.specs.Trails.{level_of}
 use Rattle.planes.proofs.desk.Desk.back_to.Given as goal
 
@@ -7,6 +7,3 @@ invariant-entries l = record {
   level : level_of l.self.trail ≡ level_of l.initial.self.trail;
   tools : l.self.tools ≡ l.initial.self.tools;
 }
-
-abbrev pub decreases-entries : goal.decreases-entries
-decreases-entries l = length l.self.trail.entries.items
