@@ -75,23 +75,36 @@ pub(crate) fn bound_row(
     class: &Class,
     team: u16,
 ) -> Result<Option<u64>, AllocError> {
-    let n = encoding.n();
     match class {
         Class::Br1 {
             teams: _,
             intp,
             side,
             slots,
-        } => {
-            let literals = no_breaks(alloc, n, *side, &[team], slots.numbers())?;
-            Ok(number_of(encoding.rows(), &literals, *intp))
-        }
+        } => break_row(alloc, encoding, *side, &[team], slots.numbers(), *intp),
         Class::Br2 { teams, intp, slots } => {
-            let literals = no_breaks(alloc, n, Side::Both, teams.numbers(), slots.numbers())?;
-            Ok(number_of(encoding.rows(), &literals, *intp))
+            let teams = teams.numbers();
+            break_row(alloc, encoding, Side::Both, teams, slots.numbers(), *intp)
         }
         _ => Ok(None),
     }
+}
+
+/// The number of the row that says that these teams have at most so many breaks on a side at these slots, if there is
+/// one.
+///
+/// # Errors
+/// Only where memory runs out.
+fn break_row(
+    alloc: Global,
+    encoding: &Encoding,
+    side: Side,
+    teams: &[u16],
+    slots: &[u16],
+    most: u32,
+) -> Result<Option<u64>, AllocError> {
+    let literals = no_breaks(alloc, encoding.n(), side, teams, slots)?;
+    Ok(number_of(encoding.rows(), &literals, most))
 }
 
 /// The literals that say that these teams have no breaks on a side at these slots.
@@ -167,9 +180,14 @@ fn number_of(rows: &RowStore, literals: &[Lit], bound: u32) -> Option<u64> {
 
 /// Whether these are the terms of literals that each count once.
 fn are_units(terms: &[Term], literals: &[Lit]) -> bool {
-    terms.len() == literals.len()
-        && terms
-            .iter()
-            .zip(literals)
-            .all(|(term, literal)| term.coef == 1 && term.lit == *literal)
+    if terms.len() != literals.len() {
+        return false;
+    }
+    for place in 0..terms.len() {
+        let term = terms[place];
+        if term.coef != 1 || term.lit != literals[place] {
+            return false;
+        }
+    }
+    true
 }

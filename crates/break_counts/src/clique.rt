@@ -11,13 +11,38 @@ use refutation::Part;
 use rows::Lit;
 use std::alloc::{AllocError, Global};
 
+/// Literals of which one is true, and the rows from which that follows.
+#[derive(Drop)]
+struct Claim {
+    clause: Vec<Lit>,
+    hints: Vec<u64>,
+}
+
+impl Claim {
+    /// No literal, and no row.
+    fn new(alloc: Global) -> Claim {
+        Claim {
+            clause: Vec::new(alloc),
+            hints: Vec::new(alloc),
+        }
+    }
+
+    /// Adds the literals and the rows of another claim.
+    ///
+    /// # Errors
+    /// Only where memory runs out.
+    fn extend(&mut self, other: &Claim) -> Result<(), AllocError> {
+        self.clause.extend_from_slice(&other.clause)?;
+        self.hints.extend_from_slice(&other.hints)
+    }
+}
+
 /// A team that begins a stretch on one side and alternates: the literals of which one is true where it doesn't, and the
 /// rows by which it meets no other team that does so too.
 #[derive(Drop)]
 struct Alternation {
     team: u16,
-    clause: Vec<Lit>,
-    hints: Vec<u64>,
+    claim: Claim,
 }
 
 /// The teams so far, and the number of a row over all their literals. It says that at least as many of these are true as
@@ -26,6 +51,27 @@ struct Alternation {
 struct Clique {
     teams: Vec<Alternation>,
     row: u64,
+}
+
+impl Clique {
+    /// Adds a team: a clause for each pair with an earlier one, and their sum with the row so far.
+    ///
+    /// # Errors
+    /// Only where memory runs out.
+    fn add(
+        &mut self,
+        alloc: Global,
+        writer: &mut Writer,
+        frame: Frame,
+        stretch: Stretch,
+        here: Alternation,
+    ) -> Result<(), AllocError> {
+        if !self.teams.is_empty() {
+            self.row = add_team(alloc, writer, frame, stretch, self, &here)?;
+        }
+        self.teams.push(here)?;
+        Ok(())
+    }
 }
 
 /// Adds the clauses of each two of these teams and their sums, and gives the number of the row of all of them.
@@ -50,15 +96,13 @@ pub fn add_clique(
     };
     for team in teams {
         let here = alternation_of(alloc, writer, frame, stretch, home, *team)?;
-        if !clique.teams.is_empty() {
-            clique.row = add_team(alloc, writer, frame, stretch, &clique, &here)?;
-        }
-        clique.teams.push(here)?;
+        clique.add(alloc, writer, frame, stretch, here)?;
     }
     Ok(clique.row)
 }
 
-/// Adds a team to those of a row: a clause for each pair with an earlier one, and their sum with the row.
+/// Adds a clause for each pair of a team with an earlier one, and their sum with the row so far. The answer is the number
+/// of that sum.
 fn add_team(
     alloc: Global,
     writer: &mut Writer,
@@ -92,14 +136,22 @@ fn add_pair(
     second: &Alternation,
 ) -> Result<u64, AllocError> {
     let meeting = meeting_row(writer, frame, stretch, first.team, second.team)?;
-    let mut clause = Vec::new(alloc);
-    clause.extend_from_slice(&first.clause)?;
-    clause.extend_from_slice(&second.clause)?;
-    let mut hints = Vec::new(alloc);
-    hints.extend_from_slice(&first.hints)?;
-    hints.extend_from_slice(&second.hints)?;
-    hints.push(meeting)?;
-    writer.clause(&clause, &hints)
+    let mut claim = Claim::new(alloc);
+    add_claim(writer, &mut claim, &first.claim, &second.claim, meeting)
+}
+
+/// Adds the clause that one of two claims holds, by a further row.
+fn add_claim(
+    writer: &mut Writer,
+    claim: &mut Claim,
+    first: &Claim,
+    second: &Claim,
+    row: u64,
+) -> Result<u64, AllocError> {
+    claim.extend(first)?;
+    claim.extend(second)?;
+    claim.hints.push(row)?;
+    writer.clause(&claim.clause, &claim.hints)
 }
 
 /// The number of a row that says that two teams meet in a stretch. In the second half they do since they meet at both
@@ -118,12 +170,20 @@ fn meeting_row(
     if stretch.first == 0 {
         return Ok(half);
     }
-    let rows = [
-        frame.meeting(first, second),
-        frame.meeting(second, first),
-        half + 1,
+    let parts = [
+        Part {
+            factor: 1,
+            row: frame.meeting(first, second),
+        },
+        Part {
+            factor: 1,
+            row: frame.meeting(second, first),
+        },
+        Part {
+            factor: 1,
+            row: half + 1,
+        },
     ];
-    let parts = rows.map(|row| Part { factor: 1, row });
     writer.sum(&parts, 1)
 }
 
@@ -140,21 +200,10 @@ fn alternation_of(
     requires within { stretch.first + stretch.count ≤ frame.slots }
     requires team { team < frame.n }
 {
-    let mut made = Alternation {
-        team,
-        clause: Vec::new(alloc),
-        hints: Vec::new(alloc),
-    };
-    add_breaks(
-        frame,
-        stretch,
-        home,
-        team,
-        &mut made.clause,
-        &mut made.hints,
-    )?;
-    add_no_games(writer, frame, stretch, home, team, &mut made.hints)?;
-    Ok(made)
+    let mut claim = Claim::new(alloc);
+    add_breaks(frame, stretch, home, team, &mut claim)?;
+    add_no_games(writer, frame, stretch, home, team, &mut claim.hints)?;
+    Ok(Alternation { team, claim })
 }
 
 /// Adds the literals that a team begins on the other side, and that it has a break that ends its alternation, and the rows
@@ -164,25 +213,25 @@ fn add_breaks(
     stretch: Stretch,
     home: bool,
     team: u16,
-    clause: &mut Vec<Lit>,
-    hints: &mut Vec<u64>,
+    claim: &mut Claim,
 ) -> Result<(), AllocError>
     requires some { 1 ≤ stretch.count }
     requires within { stretch.first + stretch.count ≤ frame.slots }
     requires team { team < frame.n }
 {
-    clause.push(Lit::new(h_at(frame.n, team, stretch.first), !home))?;
+    let begin = Lit::new(h_at(frame.n, team, stretch.first), !home);
+    claim.clause.push(begin)?;
     let mut at_home = home;
     for slot in stretch.first + 1..stretch.first + stretch.count {
         // At home in the slot before: a home break would end the alternation.
         let number = frame.home_break(team, slot);
-        if at_home {
-            clause.push(Lit::new(hb_at(frame.n, team, slot), true))?;
-            hints.push(number)?;
+        let (var, row) = if at_home {
+            (hb_at(frame.n, team, slot), number)
         } else {
-            clause.push(Lit::new(ab_at(frame.n, team, slot), true))?;
-            hints.push(number + 3)?;
-        }
+            (ab_at(frame.n, team, slot), number + 3)
+        };
+        claim.clause.push(Lit::new(var, true))?;
+        claim.hints.push(row)?;
         at_home = !at_home;
     }
     Ok(())

@@ -37,5 +37,5 @@ fn holds_later(slots: &[u16], stretch: Stretch) -> bool
 pub(crate) fn has(numbers: &[u16], number: u16) -> bool
     ensures { result ≡ is_in number numbers.now }
 {
-    numbers.iter().any(|other| *other == number)
+    numbers.contains(&number)
 }

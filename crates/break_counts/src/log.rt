@@ -121,10 +121,30 @@ fn add_steps(
 {
     let frame = Frame::new(league);
     for stretch in stretches {
-        rows.push(add_clique(alloc, writer, frame, *stretch, true, teams)?)?;
-        rows.push(add_clique(alloc, writer, frame, *stretch, false, teams)?)?;
+        add_stretch(alloc, writer, frame, *stretch, teams, rows)?;
     }
     add_sum(alloc, writer, rows)
+}
+
+/// Adds the rows of the teams' breaks in a stretch, of those that begin at home and of those that begin away.
+///
+/// # Errors
+/// Only where memory runs out.
+fn add_stretch(
+    alloc: Global,
+    writer: &mut Writer,
+    frame: Frame,
+    stretch: Stretch,
+    teams: &[u16],
+    rows: &mut Vec<u64>,
+) -> Result<(), AllocError>
+    requires some { 1 ≤ stretch.count }
+    requires within { stretch.first + stretch.count ≤ frame.slots }
+    requires teams { All (λ i. i < frame.n) teams.now }
+{
+    rows.push(add_clique(alloc, writer, frame, stretch, true, teams)?)?;
+    rows.push(add_clique(alloc, writer, frame, stretch, false, teams)?)?;
+    Ok(())
 }
 
 /// Adds the sum of these rows, and the empty clause.
@@ -201,7 +221,10 @@ fn add_single(
 {
     let most = u32::try_from(stretches.len()).unwrap_or(u32::MAX);
     let both = least_bound(league, stretches, Side::Both, team, most);
-    let limit = both.map_or(most, |bound| bound.intp);
+    let limit = match both {
+        Some(bound) => bound.intp,
+        None => most,
+    };
     let home = least_bound(league, stretches, Side::H, team, limit);
     let away = least_bound(league, stretches, Side::A, team, limit);
     if let (Some(home), Some(away)) = (home, away) {

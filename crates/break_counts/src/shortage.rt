@@ -49,15 +49,13 @@ pub(crate) fn find_shortage<'a>(
         first: n - 1,
         count: n - 1,
     };
-    let found = shortage_in(alloc, league, &[first])?;
-    if found.is_some() {
-        return Ok(found);
+    match shortage_in(alloc, league, &[first])? {
+        Some(found) => Ok(Some(found)),
+        None => match shortage_in(alloc, league, &[second])? {
+            Some(found) => Ok(Some(found)),
+            None => shortage_in(alloc, league, &[first, second]),
+        },
     }
-    let found = shortage_in(alloc, league, &[second])?;
-    if found.is_some() {
-        return Ok(found);
-    }
-    shortage_in(alloc, league, &[first, second])
 }
 
 /// The first shortage in these stretches.

@@ -68,15 +68,13 @@ pub(crate) fn find_sum(alloc: Global, league: &League) -> Result<Option<Sum>, Al
         first: n - 1,
         count: n - 1,
     };
-    let found = sum_in(alloc, league, &[first])?;
-    if found.is_some() {
-        return Ok(found);
+    match sum_in(alloc, league, &[first])? {
+        Some(found) => Ok(Some(found)),
+        None => match sum_in(alloc, league, &[second])? {
+            Some(found) => Ok(Some(found)),
+            None => sum_in(alloc, league, &[first, second]),
+        },
     }
-    let found = sum_in(alloc, league, &[second])?;
-    if found.is_some() {
-        return Ok(found);
-    }
-    sum_in(alloc, league, &[first, second])
 }
 
 /// Bounds that allow too few breaks together in these stretches, where such are found.
@@ -167,45 +165,59 @@ fn add_candidates(
     place: usize,
     later: u128,
 ) -> Result<(), AllocError> {
+    let Some(bound) = bound_of(class) else {
+        return Ok(());
+    };
+    let slots = bits_of(bound.slots) & later;
+    if slots == 0 {
+        return Ok(());
+    }
+    for team in bound.named {
+        found.push(Candidate {
+            summand: Summand { place, team: *team },
+            together: bound.together,
+            slots,
+            intp: bound.intp,
+        })?;
+    }
+    Ok(())
+}
+
+/// A bound of breaks of both sides at some slots: of each of the teams that are named by itself, or of all teams of its
+/// class together, where only team 0 is named.
+#[derive(Clone, Copy)]
+struct Bound<'a> {
+    named: &'a [u16],
+    together: bool,
+    slots: &'a [u16],
+    intp: u32,
+}
+
+/// The bound of a BR1 of both sides, or of a BR2.
+fn bound_of(class: &Class) -> Option<Bound<'_>> {
     match class {
         Class::Br1 {
             teams,
             intp,
-            side,
+            side: Side::Both,
             slots,
-        } => {
-            let bits = bits_of(slots.numbers()) & later;
-            if *side != Side::Both || bits == 0 {
-                return Ok(());
-            }
-            for team in teams.numbers() {
-                found.push(Candidate {
-                    summand: Summand { place, team: *team },
-                    together: false,
-                    slots: bits,
-                    intp: *intp,
-                })?;
-            }
-            Ok(())
-        }
+        } => Some(Bound {
+            named: teams.numbers(),
+            together: false,
+            slots: slots.numbers(),
+            intp: *intp,
+        }),
         Class::Br2 {
             teams: _,
             intp,
             slots,
-        } => {
-            let bits = bits_of(slots.numbers()) & later;
-            if bits == 0 {
-                return Ok(());
-            }
-            found.push(Candidate {
-                summand: Summand { place, team: 0 },
-                together: true,
-                slots: bits,
-                intp: *intp,
-            })?;
-            Ok(())
-        }
-        _ => Ok(()),
+        } => Some(Bound {
+            named: &[0],
+            together: true,
+            slots: slots.numbers(),
+            intp: *intp,
+        }),
+        _ => None,
     }
 }
 
