@@ -15,9 +15,8 @@ use crate::season::Season;
 use command_validate::{structure_line, verdict};
 use deviation::{Assessment, counted};
 use league::{League, Schedule, TeamId};
-use reasons::TeamGames;
 use robinx::Names;
-use season_misses::{Label, Told, lacks, misses};
+use season_misses::{Label, TeamGames, Told, lacks, misses};
 use std::alloc::{AllocError, Global};
 
 /// What the teams of a league of n teams are called.

@@ -7,10 +7,10 @@ use Rattle.league.specs.declared.class.Side.TheVariants.{H, A, Both}
 use Rattle.league.specs.declared.class.Span.TheVariants.{Global, Every}
 use Rattle.league.specs.declared.game.Game.{Game}
 use Rattle.league.proofs.DoubleFour.{all_slots, all_teams}
-use Rattle.reasons.specs.declared.reason.Break.{Break}
-use Rattle.reasons.specs.declared.reason.Cause.{Cause}
-use Rattle.reasons.specs.declared.reason.Cause.TheVariants.{Games, Window, Breaks, Lead, Gap}
-use Rattle.reasons.specs.declared.reason.Reason.{Reason}
+use Rattle.season_misses.specs.declared.reason.Break.{Break}
+use Rattle.season_misses.specs.declared.reason.Cause.{Cause}
+use Rattle.season_misses.specs.declared.reason.Cause.TheVariants.{Games, Window, Breaks, Lead, Gap}
+use Rattle.season_misses.specs.declared.reason.Reason.{Reason}
 use Rattle.season_misses.specs.Amounts.{beyond_text, stretch_text, there_text, windows_text}
 use Rattle.season_misses.specs.Games.{games_after, games_text}
 use Rattle.season_misses.specs.Lines.{breaks_by_team, line_of}

@@ -1,6 +1,6 @@
 -- The rows of reasons, one after another.
 use Rattle.std.proofs.Common.{◌≡◌, ℕ, suc, List, [], ◌∷◌, refl}
-use Rattle.reasons.specs.declared.reason.Reason.{Reason}
+use Rattle.season_misses.specs.declared.reason.Reason.{Reason}
 use Rattle.season_misses.specs.Rows.{more_windows, rows_from}
 
 -- a reason that goes on from one before it

@@ -4,7 +4,7 @@ use Rattle.std.proofs.Math.Seq.{drop-cons, take-length}
 use Rattle.std.proofs.lemmas.List.{at_drop_all}
 use Rattle.std.specs.List.{position_or_len}
 use Rattle.league.specs.declared.game.Game.{Game}
-use Rattle.reasons.specs.declared.reason.Reason.{Reason}
+use Rattle.season_misses.specs.declared.reason.Reason.{Reason}
 use Rattle.season_misses.specs.Rows.{Row, are_same_games, goes_on, is_same_game, more_windows, rows_from}
 use Rattle.season_misses.proofs.RowLemmas.{rows_from-next, rows_from-none, rows_from-told}
 

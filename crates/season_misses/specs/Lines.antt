@@ -13,9 +13,9 @@ use Rattle.league.specs.declared.class.Span.{Span}
 use Rattle.league.specs.declared.class.Span.TheVariants.{Global, Every}
 use Rattle.league.specs.declared.game.Game.{Game}
 use Rattle.season_misses.specs.Phrases.{listed, many, name_of}
-use Rattle.reasons.specs.declared.reason.Break.{Break}
-use Rattle.reasons.specs.declared.reason.Cause.{Cause}
-use Rattle.reasons.specs.declared.reason.Cause.TheVariants.{Games, Window, Breaks, Lead, Gap}
+use Rattle.season_misses.specs.declared.reason.Break.{Break}
+use Rattle.season_misses.specs.declared.reason.Cause.{Cause}
+use Rattle.season_misses.specs.declared.reason.Cause.TheVariants.{Games, Window, Breaks, Lead, Gap}
 use Rattle.season_misses.specs.Amounts.{beyond_text, count_text, stretch_text, there_text, windows_text}
 use Rattle.season_misses.specs.Games.{games_after, games_text}
 use Rattle.season_misses.specs.Rows.{Row}

@@ -11,8 +11,8 @@ use Rattle.league.specs.declared.class.Constraint.{Constraint}
 use Rattle.league.specs.declared.game.Game.{Game}
 use Rattle.season_misses.specs.Demands.{constraint_text}
 use Rattle.season_misses.specs.Phrases.{many}
-use Rattle.reasons.specs.Reasons.{reasons_of}
-use Rattle.reasons.specs.declared.reason.Reason.{Reason}
+use Rattle.season_misses.specs.Reasons.{reasons_of}
+use Rattle.season_misses.specs.declared.reason.Reason.{Reason}
 use Rattle.season_misses.specs.Lines.{all_breaks_line, breaks_by_team, breaks_told, line_of}
 use Rattle.season_misses.specs.Rows.{Row, rows_of}
 use Rattle.season_misses.specs.declared.miss.Miss.{Miss}

@@ -1,9 +1,9 @@
 -- Reasons that are told in one line: those of windows in a row that hold the same games (CA3).
 use Rattle.std.specs.Prelude.{ℕ, zero, suc, ◌+◌, Bool, true, false, ◌&&◌, ◌==◌, if◌then◌else◌, List, [], ◌∷◌}
 use Rattle.league.specs.declared.game.Game.{Game}
-use Rattle.reasons.specs.declared.reason.Cause.{Cause}
-use Rattle.reasons.specs.declared.reason.Cause.TheVariants.{Window}
-use Rattle.reasons.specs.declared.reason.Reason.{Reason}
+use Rattle.season_misses.specs.declared.reason.Cause.{Cause}
+use Rattle.season_misses.specs.declared.reason.Cause.TheVariants.{Window}
+use Rattle.season_misses.specs.declared.reason.Reason.{Reason}
 
 -- whether two games are the same
 abbrev pub is_same_game : Game → Game → Bool

@@ -6,7 +6,7 @@ use Rattle.league.specs.Deviation.{vector_of}
 use Rattle.league.specs.Instance.{IsGame}
 use Rattle.league.specs.Order.{IsInOrder}
 use Rattle.rule_core.specs.Table.{table_counts}
-use Rattle.reasons.specs.Own.{games_by_team}
+use Rattle.season_misses.specs.Own.{games_by_team}
 use Rattle.season_misses.specs.declared.told.Told.{Told}
 
 pub record IsTold (told : Told) : Type 0 where

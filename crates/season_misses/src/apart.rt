@@ -8,8 +8,8 @@ use crate::game_words::games_text;
 use crate::label::Label;
 use crate::lists::listed;
 use crate::numbers::HowMany;
+use crate::reason::Cause;
 use league::Game;
-use reasons::Cause;
 use std::alloc::{AllocError, Global};
 use std::fmt;
 

@@ -6,8 +6,8 @@ ghost use Rattle.season_misses.specs.Lines as lines;
 use crate::amounts::There;
 use crate::game_words::{games_text, name_at};
 use crate::label::Label;
+use crate::reason::{Break, Cause};
 use league::Side;
-use reasons::{Break, Cause};
 use std::alloc::{AllocError, Global};
 
 /// The breaks that are counted; none of another cause.

@@ -1,7 +1,7 @@
 //! The line of each class.
 ghost use Rattle.std.specs.Prelude.{◌≡◌, ℕ, ◌≤◌, slice_index, IfOk, IsTrue, string_bytes};
 ghost use Rattle.league.specs.Instance.{class_fits};
-ghost use Rattle.reasons.specs.Groups.{counts_games_of_a_team, counts_games_of_meetings};
+ghost use Rattle.season_misses.specs.CountedGames.{counts_games_of_a_team, counts_games_of_meetings};
 ghost use Rattle.season_misses.specs.Lines as lines;
 ghost use Rattle.season_misses.specs.SeenRow.{row_of};
 
@@ -10,9 +10,10 @@ use crate::apart::{gap_text, lead_text};
 use crate::break_lines::{all_breaks_line, breaks_line, breaks_told};
 use crate::game_words::{games_after, name_at};
 use crate::label::Label;
+use crate::pairs::pair_at;
+use crate::reason::Cause;
 use crate::row::Row;
 use league::{Bounds, Class, Game, Span};
-use reasons::{Cause, pair_at};
 use std::alloc::{AllocError, Global};
 
 /// The number at a place; 0 where there is none.

@@ -3,8 +3,8 @@ ghost use Rattle.std.specs.Prelude.{◌≡◌, ◌≤◌, ◌++◌, ◌∷◌, I
 ghost use Rattle.season_misses.specs.Rows as rows;
 ghost use Rattle.season_misses.specs.SeenRow.{row_of};
 
+use crate::reason::{Cause, Reason};
 use league::Game;
-use reasons::{Cause, Reason};
 use std::alloc::{AllocError, Global};
 
 /// A reason, and how many of those behind it go on from it.

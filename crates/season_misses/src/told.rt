@@ -10,6 +10,7 @@ ghost use Rattle.season_misses.specs.SeenRow.{row_of};
 ghost use Rattle.season_misses.specs.SeenTold.{IsTold};
 
 use crate::break_lines::{all_breaks_line, breaks_by_team, breaks_told};
+use crate::classes::reasons;
 use crate::cut::{front_of, push_cut, push_line, push_more};
 use crate::demands::constraint_words;
 use crate::gravest::gravest_first;
@@ -17,10 +18,11 @@ use crate::label::Label;
 use crate::lines::line_of;
 use crate::miss::{Miss, misses_of};
 use crate::numbers::HowMany;
+use crate::reason::Reason;
 use crate::row::{Row, rows_of};
+use crate::season::{Season, TeamGames};
 use deviation::Vectors;
 use league::{Class, Constraint, Game, League, TeamSet};
-use reasons::{Reason, Season, TeamGames, reasons};
 use rule_core::Cells;
 use std::alloc::{AllocError, Global};
 

@@ -7,7 +7,7 @@ use Rattle.league.specs.Instance.{IsGame}
 use Rattle.league.specs.Order.{IsInOrder}
 use Rattle.league.specs.declared.class.Constraint.{Constraint}
 use Rattle.league.specs.declared.game.Game.{Game}
-use Rattle.reasons.specs.Own.{games_by_team}
+use Rattle.season_misses.specs.Own.{games_by_team}
 use Rattle.command_show.specs.Show.{grid_of, labels_of, words_text}
 use Rattle.command_show.proofs.TextLemmas.{labels-count, words-same}
 use Rattle.command_show.proofs.texts.shown_text.Goals as goal

@@ -1,7 +1,7 @@
 use Rattle.std.proofs.Common.{◌+◌, List, ◌∷◌, ◌++◌, map, ap, sym, ◌∙◌}
 use Rattle.season_misses.specs.Rows.{rows_from}
 use Rattle.season_misses.specs.SeenRow.{row_of}
-use Rattle.reasons.specs.declared.reason.Reason.{Reason}
+use Rattle.season_misses.specs.declared.reason.Reason.{Reason}
 use Rattle.season_misses.proofs.WalkLemmas.{cut_at, rest_whole, rows_end}
 use Rattle.season_misses.proofs.row.rows_of.Goals as goal
 

@@ -1,4 +1,4 @@
-use Rattle.reasons.proofs.ListLemmas.{made_more}
+use Rattle.season_misses.proofs.ListLemmas.{made_more}
 use Rattle.season_misses.specs.Lacks.{lack_at}
 use Rattle.season_misses.proofs.structure.push_team.Goals as goal
 

@@ -1,6 +1,6 @@
 use Rattle.std.proofs.Common.{ℕ}
 use Rattle.std.specs.List.{flat_map, range_with_len}
-use Rattle.reasons.proofs.ListLemmas.{made_more}
+use Rattle.season_misses.proofs.ListLemmas.{made_more}
 use Rattle.season_misses.specs.Lacks.{lack_at}
 use Rattle.season_misses.proofs.structure.push_teams.Goals as goal
 

@@ -1,6 +1,6 @@
 use Rattle.std.proofs.Common.{◌≡◌, List, ℕ, OnOk, length, string_bytes, subst, ap, ◌∙◌}
-use Rattle.reasons.specs.Reasons.{reasons_of}
-use Rattle.reasons.specs.declared.reason.Reason.{Reason}
+use Rattle.season_misses.specs.Reasons.{reasons_of}
+use Rattle.season_misses.specs.declared.reason.Reason.{Reason}
 use Rattle.season_misses.specs.Misses.{head_text, reasons_text}
 use Rattle.season_misses.proofs.PartLemmas.{two_pieces}
 use Rattle.season_misses.proofs.told.push_miss.Goals as goal

@@ -1,5 +1,0 @@
-use Rattle.std.proofs.Common.{length}
-use Rattle.reasons.proofs.pairs.+pair_from.Given as goal
-
-abbrev pub decreases-pair_from : goal.decreases-pair_from
-decreases-pair_from l = length l.teams.now
