@@ -1,5 +1,5 @@
 //! Files that are put together, cut out of others, and cut short.
-use crate::ended::run_words;
+use crate::ended::{Ended, run_words};
 use std::alloc::AllocError;
 use std::{fs, io};
 
@@ -73,6 +73,11 @@ fn follow_fronts(
 /// Shows what is answered to the front that is written, if it isn't the last answer, and keeps it as the last.
 fn show_front(rt: &HostRuntime, season: &str, len: usize, last: &mut String) -> io::Result<()> {
     let ended = run_words(rt, "validate", "front", season)?;
+    show_changed(rt, &ended, len, last)
+}
+
+/// Shows an answer to a front of so many bytes, if it isn't the last answer, and keeps it as the last.
+fn show_changed(rt: &HostRuntime, ended: &Ended, len: usize, last: &mut String) -> io::Result<()> {
     if ended.text() == last.as_str() {
         return Ok(());
     }
