@@ -22,6 +22,11 @@
 //!   that ends with LAST.
 //!
 //! After the lines comes what no command shows: the bytes of a counter of steps, and a season with its score.
+//!
+//! Beside the runs stand worked examples of definitions, the facts of `proofs/`, a file a topic, with the reasoning by
+//! hand beside each: of rows, encodings, logs, search, moves, parts, bounds and played seasons, and of what answers mean
+//! and write. The values were computed by hand, each checked against the definition. A definition that says something
+//! else doesn't pass.
 #![tactic(auto)]
 
 mod answered;

@@ -8,7 +8,7 @@ use Rattle.std.specs.Fmt.{digits}
 use Rattle.std.specs.List.{All}
 use Rattle.std.specs.Ordering.{nat_cmp}
 use Rattle.std.specs.declared.cmp.Ordering.TheVariants.{Less, Equal}
-use Rattle.example_facts.proofs.Runs.{ended_with, store_of, written_between}
+use Rattle.example_runs.proofs.Runs.{ended_with, store_of, written_between}
 use Rattle.robin_run.specs.Run.{Writes}
 use Rattle.league.specs.Accepted.{IsAccepted}
 use Rattle.league.specs.Counts.{counts_of}
@@ -56,14 +56,14 @@ use Rattle.command_explain.specs.Parted.{IsPart, part_answer, parted}
 use Rattle.command_explain.specs.Texts.{IsWritableCase, ReadsBack, conflict_text, members_line}
 use Rattle.robin_run.specs.Explain.{IsContradiction}
 use Rattle.robin_run.specs.Readable.{IsReadable}
-use Rattle.example_facts.proofs.SolveExamples.{false_true, hard, home}
-use Rattle.example_facts.proofs.SolveExamples.{out, pair_row, quiet_pairs}
-use Rattle.example_facts.proofs.SolveExamples.{season_pairs, text, writable-none}
-use Rattle.example_facts.proofs.ConflictExamples.{alone, apart, cases, conflict-both, conflict-open}
-use Rattle.example_facts.proofs.ConflictExamples.{decided-both, decided-open, irreducible-both, irreducible-more}
-use Rattle.example_facts.proofs.ConflictExamples.{league, log, members, none-apart, none-both, none-more, phased}
-use Rattle.example_facts.proofs.ConflictExamples.{season-out, season_mild, some_left, stays, wish}
-use Rattle.example_facts.proofs.ConflictExamples.{writable-alone}
+use Rattle.example_runs.proofs.SolveExamples.{false_true, hard, home}
+use Rattle.example_runs.proofs.SolveExamples.{out, pair_row, quiet_pairs}
+use Rattle.example_runs.proofs.SolveExamples.{season_pairs, text, writable-none}
+use Rattle.example_runs.proofs.ConflictExamples.{alone, apart, cases, conflict-both, conflict-open}
+use Rattle.example_runs.proofs.ConflictExamples.{decided-both, decided-open, irreducible-both, irreducible-more}
+use Rattle.example_runs.proofs.ConflictExamples.{league, log, members, none-apart, none-both, none-more, phased}
+use Rattle.example_runs.proofs.ConflictExamples.{season-out, season_mild, some_left, stays, wish}
+use Rattle.example_runs.proofs.ConflictExamples.{writable-alone}
 
 -- ---- what is written of the conflict
 

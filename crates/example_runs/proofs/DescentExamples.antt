@@ -34,10 +34,10 @@ use Rattle.solve.specs.declared.lower.Season.{Season}
 use Rattle.solve.specs.declared.solved.Solved.TheVariants as solved
 use Rattle.solve.specs.declared.tries.Tried.{Tried}
 use Rattle.solve.specs.declared.tries.Tried.TheVariants as tries
-use Rattle.example_facts.proofs.SolveExamples.{accepted_home, accepted_out, false_true, fits_home, fits_out}
-use Rattle.example_facts.proofs.SolveExamples.{home, homes, log, one_there, ordered_home, ordered_out, out}
-use Rattle.example_facts.proofs.SolveExamples.{pattern_pairs, quiet_pairs, refutes-homes, spent-one_there}
-use Rattle.example_facts.proofs.SolveExamples.{wishful}
+use Rattle.example_runs.proofs.SolveExamples.{accepted_home, accepted_out, false_true, fits_home, fits_out}
+use Rattle.example_runs.proofs.SolveExamples.{home, homes, log, one_there, ordered_home, ordered_out, out}
+use Rattle.example_runs.proofs.SolveExamples.{pattern_pairs, quiet_pairs, refutes-homes, spent-one_there}
+use Rattle.example_runs.proofs.SolveExamples.{wishful}
 
 -- ---- descents: in `home` team 0 is away in slot 0, which it had better not be; the home swap of the two mends that
 

@@ -10,13 +10,13 @@ use Rattle.answers.specs.declared.status.Status.TheVariants.{Yes, Spent, Better}
 use Rattle.bounds.specs.Certificates.{certificate_of}
 use Rattle.robin_run.specs.Run.{Writes}
 use Rattle.command_prove.specs.Floor.{IsFloorShown, IsMissed, IsReached, IsUndercut}
-use Rattle.example_facts.proofs.Runs.{ended_with}
-use Rattle.example_facts.proofs.LeastExamples.{away-one, away_first, even-accepted, even_soon, log, lower_bound, one_first}
-use Rattle.example_facts.proofs.LeastExamples.{zero_first}
-use Rattle.example_facts.proofs.BetterExamples.{spent-at_zero}
-use Rattle.example_facts.proofs.ProveExamples.{bettered, better_file, bettered-zero, certificate-proves, certificate-read}
-use Rattle.example_facts.proofs.ProveExamples.{certificate-written, floor-none, no_budget, nothing_below, refused, spent}
-use Rattle.example_facts.proofs.ProveExamples.{spent-read, spent_yes, twice}
+use Rattle.example_runs.proofs.Runs.{ended_with}
+use Rattle.example_runs.proofs.LeastExamples.{away-one, away_first, even-accepted, even_soon, log, lower_bound, one_first}
+use Rattle.example_runs.proofs.LeastExamples.{zero_first}
+use Rattle.example_runs.proofs.BetterExamples.{spent-at_zero}
+use Rattle.example_runs.proofs.ProveExamples.{bettered, better_file, bettered-zero, certificate-proves, certificate-read}
+use Rattle.example_runs.proofs.ProveExamples.{certificate-written, floor-none, no_budget, nothing_below, refused, spent}
+use Rattle.example_runs.proofs.ProveExamples.{spent-read, spent_yes, twice}
 
 -- ---- a floor that is reached: of a season that costs 4
 

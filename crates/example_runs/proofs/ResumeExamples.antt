@@ -10,7 +10,7 @@ use Rattle.std.proofs.lemmas.List.Elements.{All-from_recursion, All-nil}
 use Rattle.std.specs.List.{AllPairs}
 use Rattle.std.specs.Prelude.{◌≢◌}
 use Rattle.answers.specs.Stages.{NoneFails}
-use Rattle.example_facts.proofs.Runs.{store_of}
+use Rattle.example_runs.proofs.Runs.{store_of}
 use Rattle.league.specs.Accepted.{IsAccepted}
 use Rattle.league.specs.Counts.{Counts, counts_of}
 use Rattle.league.specs.Instance.{Instance, IsInstance, class_fits}
@@ -38,8 +38,8 @@ use Rattle.resume.proofs.Faithful.{accepted_logs_exclude}
 use Rattle.resume.specs.Answers.{IsPlan, IsResumedSeason, RefutesResuming}
 use Rattle.resume.specs.declared.resumed.Resumed.TheVariants as resumed
 use Rattle.command_resume.specs.Seasons.{IsWellFormedSeason, SaySeason}
-use Rattle.example_facts.proofs.SolveExamples.{fits_home, fits_out, home, ordered_home, ordered_out, out, soft}
-use Rattle.example_facts.proofs.SolveExamples.{text, two_with}
+use Rattle.example_runs.proofs.SolveExamples.{fits_home, fits_out, home, ordered_home, ordered_out, out, soft}
+use Rattle.example_runs.proofs.SolveExamples.{text, two_with}
 use Rattle.encoding.specs.Limit.{most_terms}
 
 abbrev pub league : Instance

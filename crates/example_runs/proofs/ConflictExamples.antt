@@ -39,9 +39,9 @@ use Rattle.explain.specs.Conflicts.{IsExplanation, IsIrreducible, IsIrreducibleI
 use Rattle.explain.specs.declared.cases.Case.{Case}
 use Rattle.explain.specs.declared.cases.Case.TheVariants.{Without, Undecided}
 use Rattle.explain.specs.declared.explained.Explained.TheVariants as explained
-use Rattle.example_facts.proofs.SolveExamples.{false_true, fits_home, fits_out, hard, home, ordered_home, ordered_out}
-use Rattle.example_facts.proofs.SolveExamples.{out, quiet_pairs, refutes-no_steps}
-use Rattle.example_facts.proofs.SolveExamples.{season_pairs, soft, two_with, writable-none}
+use Rattle.example_runs.proofs.SolveExamples.{false_true, fits_home, fits_out, hard, home, ordered_home, ordered_out}
+use Rattle.example_runs.proofs.SolveExamples.{out, quiet_pairs, refutes-no_steps}
+use Rattle.example_runs.proofs.SolveExamples.{season_pairs, soft, two_with, writable-none}
 
 -- after slot 0 one team has a home game more than the other, which costs 3 in either season
 abbrev pub wish : Constraint

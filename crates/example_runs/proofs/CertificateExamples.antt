@@ -5,7 +5,7 @@ use Rattle.std.proofs.Common.{drop, zero, suc, Some, None, Result, Ok, codes, by
 use Rattle.std.proofs.Common.{refl, sym, ◌∙◌}
 use Rattle.std.specs.Fmt.{digits}
 use Rattle.answers.specs.Stages.{NoneFails}
-use Rattle.example_facts.proofs.Runs.{ended_with, store_of, written_between}
+use Rattle.example_runs.proofs.Runs.{ended_with, store_of, written_between}
 use Rattle.robin_run.specs.Run.{Writes}
 use Rattle.league.specs.Accepted.{objective}
 use Rattle.league.specs.Counts.{counts_of}
@@ -20,11 +20,11 @@ use Rattle.bounds.specs.declared.certificate.Certificate.{Certificate}
 use Rattle.command_prove.specs.Bound.{IsBoundVerdict, IsPastRoom, IsWellFormedCertificate, bound_answer, bound_verdict}
 use Rattle.robin_run.specs.Bound.{IsCertified}
 use Rattle.robin_run.specs.Prove.{IsBettered, IsUnbettered}
-use Rattle.example_facts.proofs.LeastExamples.{away-one, away-zero, away_first, even-accepted, even_soon, log}
-use Rattle.example_facts.proofs.LeastExamples.{lower_bound, one-fit, one_first, zero_first}
-use Rattle.example_facts.proofs.ProveExamples.{better-written, better_file, certificate, certificate-proves}
-use Rattle.example_facts.proofs.ProveExamples.{certificate-read, certificate-written, certificate_file, league_file}
-use Rattle.example_facts.proofs.ProveExamples.{says-league, small-even}
+use Rattle.example_runs.proofs.LeastExamples.{away-one, away-zero, away_first, even-accepted, even_soon, log}
+use Rattle.example_runs.proofs.LeastExamples.{lower_bound, one-fit, one_first, zero_first}
+use Rattle.example_runs.proofs.ProveExamples.{better-written, better_file, certificate, certificate-proves}
+use Rattle.example_runs.proofs.ProveExamples.{certificate-read, certificate-written, certificate_file, league_file}
+use Rattle.example_runs.proofs.ProveExamples.{says-league, small-even}
 
 -- ---- verdicts
 

@@ -6,7 +6,7 @@ use Rattle.std.proofs.Common.{not, sym, ◌∙◌}
 use Rattle.std.specs.Fmt.{digits}
 use Rattle.std.proofs.lemmas.Bool.{not-true}
 use Rattle.std.proofs.lemmas.List.Sums.{AllPass-from_list_all}
-use Rattle.example_facts.proofs.Runs.{ended_with}
+use Rattle.example_runs.proofs.Runs.{ended_with}
 use Rattle.robin_run.specs.Run.{Writes}
 use Rattle.rand_core.specs.Pcg32Seed.{pcg32_seed}
 use Rattle.rand_core.specs.Steps.{u32_at, word_bytes}
@@ -41,9 +41,9 @@ use Rattle.instance_gen.specs.Draws.{next, seeded, word}
 use Rattle.instance_gen.specs.Made.{made_league}
 use Rattle.command_solve.specs.MadeInstance.{IsMade}
 use Rattle.command_solve.specs.Trial.{IsTrial, summary}
-use Rattle.example_facts.proofs.LeastExamples.{one-fit}
-use Rattle.example_facts.proofs.LeastExamples.{one-in_order, one_first}
-use Rattle.example_facts.proofs.CommandExamples.{budgets, false_true, home_last, no_true, none}
+use Rattle.example_runs.proofs.LeastExamples.{one-fit}
+use Rattle.example_runs.proofs.LeastExamples.{one-in_order, one_first}
+use Rattle.example_runs.proofs.CommandExamples.{budgets, false_true, home_last, no_true, none}
 
 -- ---- `make`: the league of two teams of seed 3, whose words were worked out apart from this workspace
 

@@ -14,8 +14,8 @@ use Rattle.league.proofs.DoubleFour.{game}
 use Rattle.circle_method.specs.Breaks.{HasFewBreaks}
 use Rattle.circle_method.specs.SingleRoundRobin.{IsSingleGame, IsSingleRoundRobin}
 use Rattle.patterns.specs.PatternSet.{pattern_in}
-use Rattle.example_facts.proofs.LeastExamples.{one_first}
-use Rattle.example_facts.proofs.LeastExamples.{zero_first}
+use Rattle.example_runs.proofs.LeastExamples.{one_first}
+use Rattle.example_runs.proofs.LeastExamples.{zero_first}
 
 -- ---- round robins of two teams
 

@@ -11,7 +11,7 @@ use Rattle.std.proofs.Math.Path.{fun_ext}
 use Rattle.std.proofs.lemmas.Bool.{ltb-true, ne_eqb}
 use Rattle.std.proofs.lemmas.Bool.Decides.{nat_tests}
 use Rattle.std.proofs.lemmas.List.Elements.{All-nil, All-from_recursion}
-use Rattle.example_facts.proofs.Runs.{ended_with}
+use Rattle.example_runs.proofs.Runs.{ended_with}
 use Rattle.robin_run.specs.Run.{Writes}
 use Rattle.robinx.specs.Pieces.{pieces, pieces_from}
 use Rattle.robinx.specs.Tags.{attributes_at}
@@ -67,10 +67,10 @@ use Rattle.league_search.proofs.FoundLemmas.{plain_behind}
 use Rattle.command_solve.specs.Solve.{IsBudgetSpent, IsFound, IsRefuted, IsSchedule, descent_text}
 use Rattle.command_solve.specs.Patterns as patterned
 use Rattle.command_solve.specs.Patterns.{AreFound, ArePatterns, patterns_text}
-use Rattle.example_facts.proofs.LeastExamples.{away-one, away-zero, away_first, even-accepted, even_soon, one-fit}
-use Rattle.example_facts.proofs.LeastExamples.{one-in_order, one_first, quiet_rows}
-use Rattle.example_facts.proofs.BetterExamples.{settled-four, swap-lowers}
-use Rattle.example_facts.proofs.LeastExamples.{zero-fit, zero-in_order, zero_first}
+use Rattle.example_runs.proofs.LeastExamples.{away-one, away-zero, away_first, even-accepted, even_soon, one-fit}
+use Rattle.example_runs.proofs.LeastExamples.{one-in_order, one_first, quiet_rows}
+use Rattle.example_runs.proofs.BetterExamples.{settled-four, swap-lowers}
+use Rattle.example_runs.proofs.LeastExamples.{zero-fit, zero-in_order, zero_first}
 
 pub false_true : false ≡ true → ⊥
 false_true is = cc

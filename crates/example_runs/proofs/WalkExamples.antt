@@ -6,7 +6,7 @@ use Rattle.std.proofs.Common.{arith, IsTrue}
 use Rattle.std.proofs.lemmas.List.{append-nil}
 use Rattle.std.specs.Fmt.{digits}
 use Rattle.std.specs.Ordering.{is_le}
-use Rattle.example_facts.proofs.Runs.{ended_with, store_of}
+use Rattle.example_runs.proofs.Runs.{ended_with, store_of}
 use Rattle.robin_run.specs.Run.{Writes}
 use Rattle.league.specs.Order.{game_cmp}
 use Rattle.league.specs.Counts.{Counts, counts_of}
@@ -48,11 +48,11 @@ use Rattle.refutation.specs.declared.verdict.Cause.TheVariants.{NoConflict}
 use Rattle.refutation.specs.declared.verdict.Verdict.TheVariants.{Accepted, Rejected}
 use Rattle.command_check.specs.Check.{IsVerdict, IsWellFormedLog, LacksRoom, checked, most_log_bytes}
 use Rattle.command_check.specs.Check.{verdict_answer}
-use Rattle.example_facts.proofs.SolveExamples.{accepted_home, false_true, fits_home, home, ordered_home}
-use Rattle.example_facts.proofs.DescentExamples.{lowers-home}
-use Rattle.example_facts.proofs.SolveExamples.{out, soft, text, two_with, wishful}
-use Rattle.example_facts.proofs.DescentExamples.{swapped_home, swapped_out}
-use Rattle.example_facts.proofs.ConflictExamples.{alone, apart, none-apart}
+use Rattle.example_runs.proofs.SolveExamples.{accepted_home, false_true, fits_home, home, ordered_home}
+use Rattle.example_runs.proofs.DescentExamples.{lowers-home}
+use Rattle.example_runs.proofs.SolveExamples.{out, soft, text, two_with, wishful}
+use Rattle.example_runs.proofs.DescentExamples.{swapped_home, swapped_out}
+use Rattle.example_runs.proofs.ConflictExamples.{alone, apart, none-apart}
 use Rattle.encoding.specs.Limit.{most_terms}
 
 -- ---- what a walk gives: team 0 isn't to be away in slot 0 (hard, at no cost), nor team 1 in slot 1 (soft, at 6)

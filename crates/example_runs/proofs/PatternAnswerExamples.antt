@@ -44,8 +44,8 @@ use Rattle.league_search.specs.PatternRows.{is_pattern_row, pattern_rows}
 use Rattle.league_search.specs.PatternSets.{IsPatternSet, is_home, letter_at}
 use Rattle.league_search.specs.declared.found.PatternFound.TheVariants.{Patterns, Refuted, Spent}
 use Rattle.league_search.proofs.NewsLemmas.{ArePatternNews-none}
-use Rattle.example_facts.proofs.PatternSearchExamples.{spent-two}
-use Rattle.example_facts.proofs.StateExamples.{false_true, quiet_two, rows}
+use Rattle.example_runs.proofs.PatternSearchExamples.{spent-two}
+use Rattle.example_runs.proofs.StateExamples.{false_true, quiet_two, rows}
 
 -- ---- bounds of what is lower than a score
 

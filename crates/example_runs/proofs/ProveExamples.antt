@@ -5,7 +5,7 @@ use Rattle.std.proofs.Common.{length, Option}
 use Rattle.std.proofs.Common.{drop, Some, None, Ok, codes, bytes_eq, ap, arith, inl, inr, refl, sym, ◌∙◌}
 use Rattle.std.specs.Fmt.{digits}
 use Rattle.answers.specs.Stages.{NoneFails}
-use Rattle.example_facts.proofs.Runs.{ended_with, store_of}
+use Rattle.example_runs.proofs.Runs.{ended_with, store_of}
 use Rattle.robin_run.specs.Run.{Writes}
 use Rattle.league.specs.Accepted.{IsAccepted, objective}
 use Rattle.league.specs.Counts.{counts_of}
@@ -35,12 +35,12 @@ use Rattle.bounds.specs.declared.proved.Proved.TheVariants as proofs
 use Rattle.command_prove.proofs.ProveAnswers.{shown-refused}
 use Rattle.command_prove.specs.Prove.{IsCertified, IsShown, IsBettered, IsLeast, IsLeastByFloor, IsRejected, IsSpentBelow}
 use Rattle.command_prove.specs.Prove.{IsWellFormedCase, spent_text}
-use Rattle.example_facts.proofs.LeastExamples.{away-one, away-zero, away_first, even-accepted, even_soon, least-four}
-use Rattle.example_facts.proofs.LeastExamples.{log, lower_bound, one-fit, one-in_order, one_first}
-use Rattle.example_facts.proofs.BetterExamples.{better-one}
-use Rattle.example_facts.proofs.LeastExamples.{one_step}
-use Rattle.example_facts.proofs.LeastExamples.{zero_first}
-use Rattle.example_facts.proofs.BetterExamples.{settled-four, spent-at_zero, spent-four}
+use Rattle.example_runs.proofs.LeastExamples.{away-one, away-zero, away_first, even-accepted, even_soon, least-four}
+use Rattle.example_runs.proofs.LeastExamples.{log, lower_bound, one-fit, one-in_order, one_first}
+use Rattle.example_runs.proofs.BetterExamples.{better-one}
+use Rattle.example_runs.proofs.LeastExamples.{one_step}
+use Rattle.example_runs.proofs.LeastExamples.{zero_first}
+use Rattle.example_runs.proofs.BetterExamples.{settled-four, spent-at_zero, spent-four}
 use Rattle.encoding.specs.Limit.{most_terms}
 
 -- ---- the three answers of the search that is behind `prove`

@@ -5,7 +5,7 @@ use Rattle.std.proofs.Common.{List, [], ◌∷◌, ◌++◌, Option, Some, None,
 use Rattle.std.proofs.Common.{ap, sym, refl, arith, inl, inr}
 use Rattle.std.proofs.lemmas.List.Elements.{All-nil}
 use Rattle.std.specs.Fmt.{digits}
-use Rattle.example_facts.proofs.Runs.{ended_with, store_of, written_between}
+use Rattle.example_runs.proofs.Runs.{ended_with, store_of, written_between}
 use Rattle.robin_run.specs.Run.{Writes}
 use Rattle.league.specs.Accepted.{IsAccepted}
 use Rattle.league.specs.Counts.{Counts, counts_of}
@@ -38,13 +38,13 @@ use Rattle.command_resume.specs.Audited.{IsVerdict, IsWellFormedAudit, audited}
 use Rattle.command_resume.specs.Near.{IsNearBy}
 use Rattle.command_resume.specs.Resumed.{IsBudgetSpent, IsExcluded, IsFound, IsFoundBy, IsKeptSeason, IsOldPlan, IsPlanned}
 use Rattle.command_resume.specs.Resumed.{resumed as resumes}
-use Rattle.example_facts.proofs.CommandExamples.{false_true, one_break}
-use Rattle.example_facts.proofs.SolveExamples.{fits_home, home, ordered_home, out}
-use Rattle.example_facts.proofs.SolveExamples.{quiet_pairs, season_pairs, text}
-use Rattle.example_facts.proofs.ResumeExamples.{accepted_home, contents, crowded, crowded_file, first, league}
-use Rattle.example_facts.proofs.ResumeExamples.{league_file, log, log_file, none_crowded, none_one, nowhere}
-use Rattle.example_facts.proofs.ResumeExamples.{played_file, refutes-crowded, same_whole, says_league}
-use Rattle.example_facts.proofs.ResumeExamples.{season-home, small, whole}
+use Rattle.example_runs.proofs.CommandExamples.{false_true, one_break}
+use Rattle.example_runs.proofs.SolveExamples.{fits_home, home, ordered_home, out}
+use Rattle.example_runs.proofs.SolveExamples.{quiet_pairs, season_pairs, text}
+use Rattle.example_runs.proofs.ResumeExamples.{accepted_home, contents, crowded, crowded_file, first, league}
+use Rattle.example_runs.proofs.ResumeExamples.{league_file, log, log_file, none_crowded, none_one, nowhere}
+use Rattle.example_runs.proofs.ResumeExamples.{played_file, refutes-crowded, same_whole, says_league}
+use Rattle.example_runs.proofs.ResumeExamples.{season-home, small, whole}
 
 -- ---- what `resume` answers
 

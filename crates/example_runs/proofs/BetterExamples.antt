@@ -39,9 +39,9 @@ use Rattle.solve.specs.Solutions.{league_score}
 use Rattle.bound_rows.specs.BoundRows.{bound_rows, bound_vars}
 use Rattle.bound_rows.proofs.Faithful.{bounds-from_refuted}
 use Rattle.bounds.specs.Proofs.{IsBetter, IsLeast, IsSpentBelow}
-use Rattle.example_facts.proofs.LeastExamples.{away-one, away_first, costs, even_soon, lower_bound}
-use Rattle.example_facts.proofs.LeastExamples.{one-fit, one-in_order, one_first, soft, unit_false, unit_quiet}
-use Rattle.example_facts.proofs.LeastExamples.{with, zero_first}
+use Rattle.example_runs.proofs.LeastExamples.{away-one, away_first, costs, even_soon, lower_bound}
+use Rattle.example_runs.proofs.LeastExamples.{one-fit, one-in_order, one_first, soft, unit_false, unit_quiet}
+use Rattle.example_runs.proofs.LeastExamples.{with, zero_first}
 
 -- ---- that nothing costs less than nothing needs no log, and has none
 
