@@ -223,18 +223,27 @@ fn add_breaks(
     claim.clause.push(begin)?;
     let mut at_home = home;
     for slot in stretch.first + 1..stretch.first + stretch.count {
-        // At home in the slot before: a home break would end the alternation.
-        let number = frame.home_break(team, slot);
-        let (var, row) = if at_home {
-            (hb_at(frame.n, team, slot), number)
-        } else {
-            (ab_at(frame.n, team, slot), number + 3)
-        };
-        claim.clause.push(Lit::new(var, true))?;
+        let (literal, row) = ending_break(frame, team, slot, at_home);
+        claim.clause.push(literal)?;
         claim.hints.push(row)?;
         at_home = !at_home;
     }
     Ok(())
+}
+
+/// The break at a slot that ends the alternation of a team that is at home, or away, in the slot before: its literal, and
+/// the number of its row.
+fn ending_break(frame: Frame, team: u16, slot: u16, home: bool) -> (Lit, u64)
+    requires team { team < frame.n }
+    requires later { 1 ≤ slot }
+    requires slot { slot < frame.slots }
+{
+    let number = frame.home_break(team, slot);
+    if home {
+        (Lit::new(hb_at(frame.n, team, slot), true), number)
+    } else {
+        (Lit::new(ab_at(frame.n, team, slot), true), number + 3)
+    }
 }
 
 /// Adds the rows by which a team that alternates plays at no other team's venue, or has no home game, slot by slot.
