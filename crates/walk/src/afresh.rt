@@ -25,7 +25,7 @@ pub(crate) fn random_start(
     ensures { IfOk result (λ found. IfSome found (IsStartIn league.now)) }
 {
     let n = league.n();
-    let Some(factors) = Factors::drawn(alloc, n, random, CLIMB)? else {
+    let Some(factors) = Factors::drawn(n, random, CLIMB) else {
         return Ok(None);
     };
     let schedule = mirrored(alloc, n, &factors, random)?;

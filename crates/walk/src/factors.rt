@@ -1,35 +1,45 @@
 //! A random order of all meetings, by hill climbing (Dinitz and Stinson 1987): a round for each slot of a half.
 
 use crate::draws::below;
+use crate::lists::{TEAMS, place, set_at};
 use rand_pcg::Pcg32;
-use std::alloc::{AllocError, Global};
 
-/// The most teams of a league.
-const TEAMS: usize = 40;
+/// Numbers by two teams, or by a slot of a half and a team, as far as they are settled.
+#[derive(Clone, Copy)]
+struct Table {
+    entries: [Option<u16>; 1600],
+}
+
+impl Table {
+    /// No numbers.
+    fn empty() -> Table {
+        Table {
+            entries: [None; 1600],
+        }
+    }
+
+    /// The number in a row and column, where there is one.
+    fn at(&self, row: u16, column: u16) -> Option<u16> {
+        match self.entries.get(place(row, TEAMS, column)) {
+            Some(entry) => *entry,
+            None => None,
+        }
+    }
+
+    /// Sets the number in a row and column.
+    fn set(&mut self, row: u16, column: u16, number: Option<u16>) {
+        set_at(&mut self.entries, place(row, TEAMS, column), number);
+    }
+}
 
 /// Whom each team meets in each slot of a half, and in which slot each two teams meet, as far as that is settled.
-#[derive(Drop)]
+#[derive(Clone, Copy)]
 pub(crate) struct Factors {
     n: u16,
     slots: u16,
-    opponents: Vec<Option<u16>>,
-    meetings: Vec<Option<u16>>,
+    opponents: Table,
+    meetings: Table,
     met: u32,
-}
-
-/// The number in a table's row and column, where there is one.
-fn entry(table: &[Option<u16>], row: u16, column: u16) -> Option<u16> {
-    match table.get(row as usize * TEAMS + column as usize) {
-        Some(entry) => *entry,
-        None => None,
-    }
-}
-
-/// Sets the number in a table's row and column.
-fn set_entry(table: &mut [Option<u16>], row: u16, column: u16, value: Option<u16>) {
-    if let Some(entry) = table.get_mut(row as usize * TEAMS + column as usize) {
-        *entry = value;
-    }
 }
 
 /// The number so many steps on from another below a bound, and from 0 on again behind the bound.
@@ -44,34 +54,23 @@ fn on_from(start: u16, steps: u16, bound: u16) -> u16 {
 
 impl Factors {
     /// No meeting yet of n teams in one slot less.
-    ///
-    /// # Errors
-    /// Only where memory runs out.
-    fn new(alloc: Global, n: u16) -> Result<Factors, AllocError> {
-        Ok(Factors {
+    fn none(n: u16) -> Factors {
+        Factors {
             n,
             slots: n.saturating_sub(1),
-            opponents: vec![in alloc; None; 1600]?,
-            meetings: vec![in alloc; None; 1600]?,
+            opponents: Table::empty(),
+            meetings: Table::empty(),
             met: 0,
-        })
+        }
     }
 
     /// All meetings in a random order, if the climb gets there in so many steps.
-    ///
-    /// # Errors
-    /// Only where memory runs out.
-    pub(crate) fn drawn(
-        alloc: Global,
-        n: u16,
-        random: &mut Pcg32,
-        limit: u32,
-    ) -> Result<Option<Factors>, AllocError> {
-        let mut factors = Factors::new(alloc, n)?;
+    pub(crate) fn drawn(n: u16, random: &mut Pcg32, limit: u32) -> Option<Factors> {
+        let mut factors = Factors::none(n);
         let all = u32::from(n).wrapping_mul(u32::from(n.saturating_sub(1))) / 2;
         for _step in 0..limit {
             if factors.met == all {
-                return Ok(Some(factors));
+                return Some(factors);
             }
             if below(random, 2) == 0 {
                 factors.climb_from_team(random);
@@ -79,12 +78,12 @@ impl Factors {
                 factors.climb_from_slot(random);
             }
         }
-        Ok(None)
+        None
     }
 
     /// The opponent of a team in a slot of the first half.
     pub(crate) fn opponent(&self, team: u16, slot: u16) -> Option<u16> {
-        entry(&self.opponents, slot, team)
+        self.opponents.at(slot, team)
     }
 
     /// Gives a team a meeting that it lacks in a slot in which it is free.
@@ -112,7 +111,7 @@ impl Factors {
         let Some(other) = self.free_team(slot, team.saturating_add(1)) else {
             return;
         };
-        if let Some(before) = entry(&self.meetings, team, other) {
+        if let Some(before) = self.meetings.at(team, other) {
             self.part(team, other, before);
         }
         self.meet(team, other, slot);
@@ -145,7 +144,7 @@ impl Factors {
         let start = self.any_team(random);
         for step in 0..self.n {
             let other = on_from(start, step, self.n);
-            if other != team && entry(&self.meetings, team, other).is_none() {
+            if other != team && self.meetings.at(team, other).is_none() {
                 return Some(other);
             }
         }
@@ -164,23 +163,19 @@ impl Factors {
 
     /// Lets two teams meet in a slot.
     fn meet(&mut self, team: u16, other: u16, slot: u16) {
-        set_entry(&mut self.opponents, slot, team, Some(other));
-        set_entry(&mut self.opponents, slot, other, Some(team));
-        self.set_meeting(team, other, Some(slot));
+        self.opponents.set(slot, team, Some(other));
+        self.opponents.set(slot, other, Some(team));
+        self.meetings.set(team, other, Some(slot));
+        self.meetings.set(other, team, Some(slot));
         self.met = self.met.saturating_add(1);
     }
 
     /// Lets two teams not meet in a slot any more.
     fn part(&mut self, team: u16, other: u16, slot: u16) {
-        set_entry(&mut self.opponents, slot, team, None);
-        set_entry(&mut self.opponents, slot, other, None);
-        self.set_meeting(team, other, None);
+        self.opponents.set(slot, team, None);
+        self.opponents.set(slot, other, None);
+        self.meetings.set(team, other, None);
+        self.meetings.set(other, team, None);
         self.met = self.met.saturating_sub(1);
-    }
-
-    /// Writes in which slot two teams meet.
-    fn set_meeting(&mut self, team: u16, other: u16, slot: Option<u16>) {
-        set_entry(&mut self.meetings, team, other, slot);
-        set_entry(&mut self.meetings, other, team, slot);
     }
 }
