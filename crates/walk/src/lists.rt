@@ -61,13 +61,10 @@ pub(crate) fn add_at(
     Ok(())
 }
 
-/// The middle one of some numbers, the higher one of two, where there are any.
-///
-/// # Errors
-/// Only where memory runs out.
-pub(crate) fn middle_of(mut numbers: Vec<u64>) -> Result<Option<u64>, AllocError> {
-    numbers.sort()?;
-    Ok(numbers.get(numbers.len() / 2).copied())
+/// The middle one of some numbers, the higher one of two, where there are any. It puts them in order.
+pub(crate) fn middle_of(numbers: &mut [u64]) -> Option<u64> {
+    numbers.sort_unstable();
+    numbers.get(numbers.len() / 2).copied()
 }
 
 /// A bit for each of some slots.

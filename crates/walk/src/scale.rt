@@ -25,7 +25,7 @@ pub(crate) fn usual_change(
     let mut edit = Edit::new(alloc, board.n())?;
     let mut changes = Vec::new(alloc);
     draw_changes(random, board, &mut edit, parts, &mut changes)?;
-    Ok(middle_of(changes)?.unwrap_or(1))
+    Ok(middle_of(&mut changes).unwrap_or(1))
 }
 
 /// Adds how much more or less the parts weigh after each drawn move that changes it.

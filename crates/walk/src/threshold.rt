@@ -31,8 +31,8 @@ pub(crate) fn soft_heat(
     league: &League,
     few_breaks: bool,
 ) -> Result<u64, AllocError> {
-    let penalties = soft_penalties(alloc, league)?;
-    let heat = middle_of(penalties)?.unwrap_or(0).saturating_mul(2);
+    let mut penalties = soft_penalties(alloc, league)?;
+    let heat = middle_of(&mut penalties).unwrap_or(0).saturating_mul(2);
     Ok(if few_breaks { heat / 4 } else { heat })
 }
 
