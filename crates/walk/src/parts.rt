@@ -53,7 +53,23 @@ fn bounds_each_slot(class: &Class) -> bool {
 /// # Errors
 /// Only where memory runs out.
 fn add_whole(constraint: &Constraint, parts: &mut Vec<Constraint>) -> Result<(), AllocError> {
-    parts.push(constraint.copy()?)?;
+    add_part(constraint, constraint.class.copy()?, parts)
+}
+
+/// Adds a part of a constraint, which is of this class.
+///
+/// # Errors
+/// Only where memory runs out.
+fn add_part(
+    constraint: &Constraint,
+    class: Class,
+    parts: &mut Vec<Constraint>,
+) -> Result<(), AllocError> {
+    parts.push(Constraint {
+        hard: constraint.hard,
+        penalty: constraint.penalty,
+        class,
+    })?;
     Ok(())
 }
 
@@ -101,8 +117,7 @@ fn add_for(
     teams: &[u16],
     parts: &mut Vec<Constraint>,
 ) -> Result<(), AllocError> {
-    parts.push(of_teams(alloc, constraint, teams)?)?;
-    Ok(())
+    add_part(constraint, class_of_teams(alloc, constraint, teams)?, parts)
 }
 
 /// Adds a part for each window of each of a CA3's teams, in a league of n teams.
@@ -146,7 +161,8 @@ fn add_windows_of(
     Ok(())
 }
 
-/// Adds a part for one of a CA3's teams in the slots from one on, as far as another one, which isn't among them.
+/// Adds what a CA3 demands of one of its teams in the slots from one on, as far as another one, which isn't among them:
+/// a CA2.
 ///
 /// # Errors
 /// Only where memory runs out.
@@ -159,33 +175,13 @@ fn add_window(
     parts: &mut Vec<Constraint>,
 ) -> Result<(), AllocError> {
     let slots = slots_between(alloc, first, end)?;
-    parts.push(in_window(alloc, constraint, team, slots)?)?;
-    Ok(())
+    let class = class_of_teams(alloc, constraint, &[team])?;
+    add_part(constraint, in_window(class, slots), parts)
 }
 
-/// The slots from one on, as far as another one, which isn't among them.
-///
-/// # Errors
-/// Only where memory runs out.
-fn slots_between(alloc: Global, first: u16, end: u16) -> Result<SlotSet, AllocError> {
-    let mut slots = SlotSet::new(alloc);
-    for slot in first..end {
-        slots.insert(SlotId(slot))?;
-    }
-    Ok(slots)
-}
-
-/// What a CA3 demands of a team in a window of slots: a CA2.
-///
-/// # Errors
-/// Only where memory runs out.
-fn in_window(
-    alloc: Global,
-    constraint: &Constraint,
-    team: u16,
-    slots: SlotSet,
-) -> Result<Constraint, AllocError> {
-    let class = match class_of_teams(alloc, constraint, &[team])? {
+/// The class of a CA3 in a window of slots: a CA2.
+fn in_window(class: Class, slots: SlotSet) -> Class {
+    match class {
         Class::Ca3 {
             teams1,
             teams2,
@@ -202,12 +198,19 @@ fn in_window(
             slots,
         },
         other => other,
-    };
-    Ok(Constraint {
-        hard: constraint.hard,
-        penalty: constraint.penalty,
-        class,
-    })
+    }
+}
+
+/// The slots from one on, as far as another one, which isn't among them.
+///
+/// # Errors
+/// Only where memory runs out.
+fn slots_between(alloc: Global, first: u16, end: u16) -> Result<SlotSet, AllocError> {
+    let mut slots = SlotSet::new(alloc);
+    for slot in first..end {
+        slots.insert(SlotId(slot))?;
+    }
+    Ok(slots)
 }
 
 /// Adds a part for each of a constraint's slots.
@@ -238,10 +241,9 @@ fn add_slot(
 ) -> Result<(), AllocError> {
     let mut one = SlotSet::new(alloc);
     one.insert(SlotId(slot))?;
-    let mut part = constraint.copy()?;
-    set_slots(&mut part.class, one);
-    parts.push(part)?;
-    Ok(())
+    let mut class = constraint.class.copy()?;
+    set_slots(&mut class, one);
+    add_part(constraint, class, parts)
 }
 
 /// Lets a CA4 speak of these slots.
@@ -249,23 +251,6 @@ fn set_slots(class: &mut Class, some: SlotSet) {
     if let Class::Ca4 { slots, .. } = class {
         *slots = some;
     }
-}
-
-/// A constraint that speaks of these teams only.
-///
-/// # Errors
-/// Only where memory runs out.
-fn of_teams(
-    alloc: Global,
-    constraint: &Constraint,
-    numbers: &[u16],
-) -> Result<Constraint, AllocError> {
-    let class = class_of_teams(alloc, constraint, numbers)?;
-    Ok(Constraint {
-        hard: constraint.hard,
-        penalty: constraint.penalty,
-        class,
-    })
 }
 
 /// The class of a constraint, which speaks of these teams only.
