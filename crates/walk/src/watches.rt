@@ -120,12 +120,14 @@ impl Watches {
     /// Only where memory runs out.
     fn add(&mut self, number: usize, n: u16, class: &Class) -> Result<(), AllocError> {
         match class.name() {
-            ClassName::Ca1 => self.add_venues(number, class),
+            ClassName::Ca1 => self.add_by_side(number, class, Mark::Home, Mark::Away),
             ClassName::Ca2 | ClassName::Ca4 => self.add_games(number, n, class),
             ClassName::Ga1 => {
                 self.add_meetings(Watch::of(number, slots_of(class)), meetings_of(class))
             }
-            ClassName::Br1 | ClassName::Br2 => self.add_breaks(number, class),
+            ClassName::Br1 | ClassName::Br2 => {
+                self.add_by_side(number, class, Mark::HomeBreak, Mark::AwayBreak)
+            }
             ClassName::Fa2 => self.add_leads(number, teams_of(class)),
             ClassName::Se1 => self.add_games_between(
                 Watch::of_any(number),
@@ -137,32 +139,23 @@ impl Watches {
         }
     }
 
-    /// Adds a part that counts the games of its teams on its side in its slots.
+    /// Adds a part that counts in its slots what its teams have on its side: one mark at home, and another away.
     ///
     /// # Errors
     /// Only where memory runs out.
-    fn add_venues(&mut self, number: usize, class: &Class) -> Result<(), AllocError> {
+    fn add_by_side(
+        &mut self,
+        number: usize,
+        class: &Class,
+        home: Mark,
+        away: Mark,
+    ) -> Result<(), AllocError> {
         let side = side_of(class);
         if side != Side::A {
-            self.add_marks(number, Mark::Home, class)?;
+            self.add_marks(number, home, class)?;
         }
         if side != Side::H {
-            self.add_marks(number, Mark::Away, class)?;
-        }
-        Ok(())
-    }
-
-    /// Adds a part that counts the breaks of its teams on its side at its slots.
-    ///
-    /// # Errors
-    /// Only where memory runs out.
-    fn add_breaks(&mut self, number: usize, class: &Class) -> Result<(), AllocError> {
-        let side = side_of(class);
-        if side != Side::A {
-            self.add_marks(number, Mark::HomeBreak, class)?;
-        }
-        if side != Side::H {
-            self.add_marks(number, Mark::AwayBreak, class)?;
+            self.add_marks(number, away, class)?;
         }
         Ok(())
     }
@@ -201,7 +194,7 @@ impl Watches {
         let side = side_of(class);
         let opponents = opponents_in(class);
         if side != Side::Both && opponents.len() == usize::from(n) {
-            return self.add_venues(number, class);
+            return self.add_by_side(number, class, Mark::Home, Mark::Away);
         }
         let watch = Watch::of(number, slots_of(class));
         self.add_games_between(watch, teams_of(class), opponents, side)
