@@ -222,7 +222,6 @@ impl Walker {
         ensures left { OnOk result (self.new.left ≡ self.old.left) }
     {
         let schedule = self.best.schedule(alloc)?;
-        self.stand_at(alloc, league, &schedule)?;
-        Ok(())
+        self.stand_at(alloc, league, &schedule)
     }
 }

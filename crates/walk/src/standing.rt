@@ -367,20 +367,13 @@ impl Standing {
         for later in 1..n {
             let earlier = below(&mut self.random, later + 1);
             if earlier < later {
-                self.exchange(TeamId(earlier), TeamId(later));
+                // Each team gets the other's games, also the two between them.
+                let i = TeamId(earlier);
+                let j = TeamId(later);
+                self.make_if_legal(Swap::TeamSwap { i, j });
+                self.make_if_legal(Swap::HomeSwap { i, j });
             }
         }
-    }
-
-    /// Gives each of two teams the other's games, also the two between them.
-    fn exchange(&mut self, i: TeamId, j: TeamId)
-        requires order { i.0 < j.0 }
-        requires below { j.0 < self.old.board.n }
-        requires standing { IsStandingOn self.old.board.n self.old.board.phased (round_counts self.old.board) self.old }
-        ensures standing { IsStandingOn self.old.board.n self.old.board.phased (round_counts self.new.board) self.new }
-    {
-        self.make_if_legal(Swap::TeamSwap { i, j });
-        self.make_if_legal(Swap::HomeSwap { i, j });
     }
 
     /// Makes a move where it is legal.

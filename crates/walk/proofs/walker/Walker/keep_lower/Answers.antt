@@ -2,7 +2,6 @@ use Rattle.std.proofs.Common.{◌≡◌, ℕ, ◌*◌, ◌≤◌, List, ap, subs
 use Rattle.league.specs.Counts.{Counts, counts_of}
 use Rattle.league.specs.declared.game.Game.{Game}
 use Rattle.moves.specs.Round.{round_counts}
-use Rattle.descent.specs.Score.{IsNoWorse}
 use Rattle.descent.specs.declared.score.Score.{Score}
 use Rattle.walk.specs.Walked.{league_score}
 use Rattle.walk.proofs.WalkLemmas.{kept-in}
@@ -24,12 +23,3 @@ returns-clause-walker c =
           c.requires.walker.standing.teams c.requires.walker.standing.phases (c.keep.ensures.kept cost same)
           c.requires.walker.best;
     }
-
-pub returns-clause-seen : goal.returns-clause-seen
-returns-clause-seen c = λ lower.
-    let cost : Counts → Score = league_score c.args.league.now in
-    subst (λ (s : Score). IsNoWorse c.keep.new.self.score s)
-    (c.in_ok-score.ensures
-    ∙ ap (λ (m : Counts). cost m)
-    (ap (λ (games : List Game). counts_of games) c.deref.ensures.value ∙ c.copy_games.ensures.copy.counts))
-    c.keep.ensures.beside
