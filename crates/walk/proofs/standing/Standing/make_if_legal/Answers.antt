@@ -6,6 +6,10 @@ use Rattle.moves.specs.Round.{round_counts}
 use Rattle.descent.proofs.EditLemmas.{edited-is}
 use Rattle.walk.proofs.standing.Standing.make_if_legal.Goals as goal
 
+pub apply-requires-clause-there : goal.apply-requires-clause-there
+apply-requires-clause-there c i j s =
+    let legal : c.edit_of.result ≡ true = c.if-edit_of.true in (c.edit_of.ensures.edit legal).there i j s
+
 pub apply-requires-clause-round_robin : goal.apply-requires-clause-round_robin
 apply-requires-clause-round_robin c =
     let n = c.args.self.now.board.n in
