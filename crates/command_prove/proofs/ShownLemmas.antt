@@ -33,7 +33,7 @@ use Rattle.bounds.specs.declared.certificate.Certificate.{Certificate}
 use Rattle.bounds.specs.Proofs as proofs
 use Rattle.bounds.specs.declared.proved.Proved.{Proved}
 use Rattle.bounds.specs.declared.proved.Proved.TheVariants.{Least, Better, Spent}
-use Rattle.command_validate.specs.Validate.{IsJudgement}
+use Rattle.command_check.specs.Validate.{IsJudgement}
 use Rattle.command_prove.specs.Bound.{bound_verdict}
 use Rattle.floors.specs.Floors.{IsFloor}
 use Rattle.floors.specs.declared.floor.Floor.{Floor}

@@ -27,7 +27,7 @@ use Rattle.solve.specs.Solutions.{league_score}
 use Rattle.bound_rows.specs.BoundRows.{bound_rows, bound_size, bound_vars}
 use Rattle.bound_rows.specs.Faithful.{IsLowerBound}
 use Rattle.bounds.specs.Certificates.{certificate_of, certificate_text}
-use Rattle.command_validate.specs.Validate.{IsJudgement, IsWellFormedPair}
+use Rattle.command_check.specs.Validate.{IsJudgement, IsWellFormedPair}
 use Rattle.command_prove.specs.Bound.{bound_verdict, has_few_terms}
 use Rattle.encoding.specs.Limit.{most_terms}
 

@@ -20,7 +20,7 @@ use crate::measured::{Measured, measured_in};
 use crate::prove_replies::proof_reply;
 use answers::{NoValue, Reply, file, schedule_in};
 use bounds::{Counted, prove, prove_bound};
-use command_validate::judgement;
+use command_check::judgement;
 use deviation::assess;
 use league::{League, Schedule};
 use robin_io::Shelf;

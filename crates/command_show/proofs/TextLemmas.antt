@@ -11,7 +11,7 @@ use Rattle.league.proofs.CountLemmas.{counts_of-permutation}
 use Rattle.robinx.specs.Names.{Names}
 use Rattle.deviation.specs.Assess.{IsStructureOf}
 use Rattle.deviation.specs.declared.assessment.Assessment.{Assessment}
-use Rattle.command_validate.specs.Assessed.{IsAssessmentOf}
+use Rattle.command_check.specs.Assessed.{IsAssessmentOf}
 use Rattle.command_show.specs.Grid.{Season, grid_text}
 use Rattle.command_show.specs.Show.{grid_of, labels_of, words_text, wrongs_of}
 

@@ -20,7 +20,7 @@ use Rattle.command_show.specs.Csv.{csv_text}
 use Rattle.command_show.specs.Grid.{grid_text}
 use Rattle.season_misses.specs.Lacks.{lacks_text}
 use Rattle.season_misses.specs.Misses.{misses_text}
-use Rattle.command_validate.specs.Report.{structure_text, verdict_text}
+use Rattle.command_check.specs.Report.{structure_text, verdict_text}
 use Rattle.answers.specs.Reply.{Answer}
 use Rattle.answers.specs.Stages.{◌>>=◌, Outcome, reads, says}
 use Rattle.answers.specs.declared.status.Status.TheVariants.{Yes, No}

@@ -4,7 +4,7 @@ ghost use Rattle.std.specs.List.{All};
 ghost use Rattle.league.specs.Instance.{IsGame};
 ghost use Rattle.league.specs.Order.{IsInOrder};
 ghost use Rattle.robinx.specs.Names.{IsNames};
-ghost use Rattle.command_validate.specs.Assessed.{IsAssessmentOf};
+ghost use Rattle.command_check.specs.Assessed.{IsAssessmentOf};
 ghost use Rattle.season_misses.specs.SeenTold.{IsTold};
 ghost use Rattle.command_show.specs.Show as show;
 
@@ -12,7 +12,7 @@ use crate::csv::season_csv;
 use crate::form::Form;
 use crate::grid::season_grid;
 use crate::season::Season;
-use command_validate::{structure_line, verdict};
+use command_check::{structure_line, verdict};
 use deviation::{Assessment, counted};
 use league::{League, Schedule, TeamId};
 use robinx::Names;

@@ -27,7 +27,7 @@ use Rattle.encoding.specs.Encoding.{encoding_size, rows_of}
 use Rattle.decoding.specs.Excluded.{NoneAccepted}
 use Rattle.command_check.specs.Check.{encodes}
 use Rattle.command_check.proofs.AnswerLemmas.{encodes-small}
-use Rattle.command_validate.specs.Validate.{IsWellFormedPair}
+use Rattle.command_check.specs.Validate.{IsWellFormedPair}
 use Rattle.command_solve.specs.From.{IsBegun, IsFoundFrom, IsNoStart, IsWellFormedStart, begun}
 use Rattle.command_solve.specs.Written.{IsWritten}
 use Rattle.venue_counts.specs.VenueCounts.{are_crowded, are_short}

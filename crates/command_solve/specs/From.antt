@@ -18,7 +18,7 @@ use Rattle.encoding.specs.Limit.{most_terms}
 use Rattle.encoding.specs.Encoding.{encoding_size}
 use Rattle.robin_watch.specs.declared.budgets.Budgets.{Budgets}
 use Rattle.command_check.specs.Check.{encodes}
-use Rattle.command_validate.specs.Validate.{IsJudgement, IsWellFormedPair}
+use Rattle.command_check.specs.Validate.{IsJudgement, IsWellFormedPair}
 use Rattle.command_solve.specs.Solve.{IsFoundBy, IsSchedule}
 
 -- The season is no start: it isn't a double round robin of the league, in two phases where the league is phased. The

@@ -14,7 +14,7 @@ ghost use Rattle.command_solve.specs.From.{IsBegun, IsFoundFrom, begun};
 
 use crate::solve_replies::found_reply;
 use answers::{NoValue, Reply, file, league_in, rows_refused, schedule_in};
-use command_validate::judge;
+use command_check::judge;
 use encoding::EncodeFault;
 use league::{League, Schedule, structure};
 use robin_io::Shelf;

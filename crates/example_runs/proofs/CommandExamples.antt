@@ -30,8 +30,8 @@ use Rattle.circle_method.specs.Circle.{double_games}
 use Rattle.patterns.specs.Pattern.{IsPattern}
 use Rattle.answers.specs.Reply.{Answer}
 use Rattle.answers.specs.declared.status.Status.TheVariants.{Yes, No, Refuted, Spent}
-use Rattle.command_validate.specs.Report.{report_text}
-use Rattle.command_validate.specs.Validate.{IsJudgement}
+use Rattle.command_check.specs.Report.{report_text}
+use Rattle.command_check.specs.Validate.{IsJudgement}
 use Rattle.rows.specs.Literals.{Literal}
 use Rattle.rows.specs.Values.{assigned, valued}
 use Rattle.rows.specs.declared.partial.Value.{Value}

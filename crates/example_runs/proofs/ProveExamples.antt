@@ -21,8 +21,8 @@ use Rattle.robinx.specs.Walk.{walk}
 use Rattle.answers.specs.Reply.{Answer}
 use Rattle.answers.specs.declared.status.Status.{Status}
 use Rattle.answers.specs.declared.status.Status.TheVariants.{Yes, No, Spent, Better}
-use Rattle.command_validate.specs.Report.{report_text}
-use Rattle.command_validate.specs.Validate.{IsWellFormedPair}
+use Rattle.command_check.specs.Report.{report_text}
+use Rattle.command_check.specs.Validate.{IsWellFormedPair}
 use Rattle.refutation.specs.Logs.{lines_from, log_of}
 use Rattle.refutation.specs.Steps.{Step}
 use Rattle.refutation.specs.declared.verdict.Verdict.TheVariants.{Accepted}

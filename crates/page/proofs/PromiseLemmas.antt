@@ -6,7 +6,7 @@ use Rattle.answers.specs.Status.{status_code}
 use Rattle.answers.specs.declared.status.Status.{Status}
 use Rattle.answers.specs.declared.status.Status.TheVariants.{Yes, No, Words, File, Refuted, Spent, ReadFault}
 use Rattle.answers.specs.declared.status.Status.TheVariants.{WriteFault, Memory, Better}
-use Rattle.command_validate.specs.Validate.{IsJudgement}
+use Rattle.command_check.specs.Validate.{IsJudgement}
 use Rattle.page.specs.Files.{file_named}
 use Rattle.page.specs.declared.files.Files.{Files}
 use Rattle.robin_run.specs.Run.{Writes}

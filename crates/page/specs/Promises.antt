@@ -13,7 +13,7 @@ use Rattle.answers.specs.Reply.{Answer}
 use Rattle.answers.specs.Stages.{Outcome}
 use Rattle.answers.specs.Status.{status_code}
 use Rattle.decoding.specs.Excluded.{NoneAccepted}
-use Rattle.command_validate.specs.Validate.{IsJudgement}
+use Rattle.command_check.specs.Validate.{IsJudgement}
 use Rattle.page.specs.Files.{file_named}
 use Rattle.page.specs.declared.files.Files.{Files}
 

@@ -33,7 +33,7 @@ use Rattle.refutation.specs.declared.verdict.Verdict.{Verdict}
 use Rattle.refutation.specs.declared.verdict.Verdict.TheVariants.{Accepted, Rejected}
 use Rattle.bounds.specs.Certificates.{certificate_of}
 use Rattle.bounds.specs.declared.certificate.Certificate.{Certificate}
-use Rattle.command_validate.specs.Validate.{IsJudgement, validated}
+use Rattle.command_check.specs.Validate.{IsJudgement, validated}
 use Rattle.robinx.specs.Names.{Names}
 use Rattle.robinx.specs.NamesFile.{names_of}
 use Rattle.command_show.specs.Demands.{AreDemands, demanded, demands_answer, first_absent, numbers_asked}

@@ -14,8 +14,8 @@ use Rattle.refutation.specs.declared.fault.LogKind.TheVariants.{BadLine}
 use Rattle.robin_run.specs.Answer.{IsAnswer}
 use Rattle.robin_run.specs.Ends.{may_end}
 use Rattle.robin_run.specs.Run.{step_room}
-use Rattle.command_validate.proofs.ValidateFacts as judged
-use Rattle.command_validate.proofs.ValidateFacts.{the_answer, validated-fault, validated-one}
+use Rattle.command_check.proofs.ValidateFacts as judged
+use Rattle.command_check.proofs.ValidateFacts.{the_answer, validated-fault, validated-one}
 
 -- where nothing fails, the judgement is the one answer to `validate league season`
 pub validate-one : (answer : Answer) → IsAnswer ⊥ None (Some (Validate (codes "league") (codes "season"))) judged.store answer → answer ≡ the_answer

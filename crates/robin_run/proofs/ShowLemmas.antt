@@ -14,7 +14,7 @@ use Rattle.command_line.specs.Words.Command.{Demands, Sheet, Show}
 use Rattle.answers.specs.Reply.{Answer}
 use Rattle.answers.specs.Stages.{NoneFails, Outcome, says, takes}
 use Rattle.answers.proofs.StageLemmas.{first-works, says-known, second-works, takes-known}
-use Rattle.command_validate.specs.Validate.{IsWellFormedPair}
+use Rattle.command_check.specs.Validate.{IsWellFormedPair}
 use Rattle.command_show.specs.Demands.{AreDemands, demanded}
 use Rattle.command_show.specs.Show.{IsShown, form_text, shown}
 use Rattle.command_show.specs.declared.form.Form.{Form}

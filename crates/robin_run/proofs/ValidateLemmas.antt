@@ -11,7 +11,7 @@ use Rattle.command_line.specs.Words.Command.{Validate}
 use Rattle.answers.specs.Reply.{Answer}
 use Rattle.answers.specs.Stages.{NoneFails, Outcome, says, takes}
 use Rattle.answers.proofs.StageLemmas.{first-works, says-known, second-works, takes-known}
-use Rattle.command_validate.specs.Validate.{IsJudgement, IsWellFormedPair, validated}
+use Rattle.command_check.specs.Validate.{IsJudgement, IsWellFormedPair, validated}
 use Rattle.robin_run.specs.Run.{Answered, Run}
 use Rattle.robin_run.specs.Validate.{Validates}
 use Rattle.robin_run.proofs.RunLemmas.{writes}

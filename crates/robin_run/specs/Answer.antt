@@ -27,7 +27,7 @@ use Rattle.command_show.specs.declared.form.Form.TheVariants.{Text, Csv}
 use Rattle.command_solve.specs.From.{begun}
 use Rattle.command_solve.specs.Solve.{solved}
 use Rattle.command_solve.specs.Trial.{tried}
-use Rattle.command_validate.specs.Validate.{validated}
+use Rattle.command_check.specs.Validate.{validated}
 use Rattle.command_rows.specs.Valued.{valued}
 
 -- the answer to the words, of a run that may be stopped where `may_stop` says so, and in which the steps of a log may

@@ -9,7 +9,7 @@ use Rattle.robinx.specs.NamesFile.{names_of}
 use Rattle.robinx.specs.declared.instance.TheConstants.{INSTANCE_LIMIT}
 use Rattle.command_line.specs.Words.{Command}
 use Rattle.answers.specs.Reply.{Answer}
-use Rattle.command_validate.specs.Validate.{IsWellFormedPair}
+use Rattle.command_check.specs.Validate.{IsWellFormedPair}
 use Rattle.command_show.specs.Demands.{AreDemands}
 use Rattle.command_show.specs.Show.{IsShown, form_text}
 use Rattle.command_show.specs.declared.form.Form.{Form}

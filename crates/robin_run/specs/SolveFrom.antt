@@ -15,7 +15,7 @@ use Rattle.answers.specs.declared.status.Status.TheVariants.{Refuted, Spent, Yes
 use Rattle.encoding.specs.Encoding.{rows_of}
 use Rattle.decoding.specs.Excluded.{NoneAccepted}
 use Rattle.command_resume.specs.Seasons.{SaySeason}
-use Rattle.command_validate.specs.Validate.{IsWellFormedPair}
+use Rattle.command_check.specs.Validate.{IsWellFormedPair}
 use Rattle.command_solve.specs.From.{IsFoundFrom, IsNoStart, IsScheduleWithin, IsWellFormedStart}
 use Rattle.robin_run.specs.Said.{SaysLeague}
 use Rattle.robin_run.specs.Run.{NothingFails, Run, Writes}

@@ -3,7 +3,7 @@ use Rattle.std.specs.Prelude.{◌≡◌, ℕ, List, [], ◌∷◌, Some}
 use Rattle.league.specs.Instance.{Instance}
 use Rattle.league.specs.declared.game.Game.{Game}
 use Rattle.command_line.specs.Words.{Command}
-use Rattle.command_validate.specs.Validate.{IsJudgement, IsWellFormedPair}
+use Rattle.command_check.specs.Validate.{IsJudgement, IsWellFormedPair}
 use Rattle.robin_run.specs.Run.{NothingFails, Run, Writes}
 
 pub record Promise (run : Run) (instance solution : List ℕ) : Type 0 where

@@ -6,7 +6,7 @@ use Rattle.league.specs.declared.class.Class.TheVariants.{Ca1, Ga1, Se1}
 use Rattle.league.specs.declared.class.Constraint.{Constraint}
 use Rattle.league.specs.declared.class.Side.TheVariants.{H}
 use Rattle.league.specs.declared.game.Game.{Game}
-use Rattle.command_validate.specs.Report.{constraint_front, constraint_text, constraints_text, entries_text, head_text, lines_text, mode_word, report_text, structure_text, verdict_text, yes_or_no}
+use Rattle.command_check.specs.Report.{constraint_front, constraint_text, constraints_text, entries_text, head_text, lines_text, mode_word, report_text, structure_text, verdict_text, yes_or_no}
 
 -- the parts of a report: two teams have two slots, and four have six
 pub mode_word-both : (mode_word true ≡ codes "P") × (mode_word false ≡ codes "NULL")

@@ -9,7 +9,7 @@ use Rattle.robinx.specs.declared.instance.TheConstants.{INSTANCE_LIMIT, SOLUTION
 use Rattle.answers.specs.Reply.{Answer}
 use Rattle.answers.specs.Stages.{IsFile, IsUnread, says, takes}
 use Rattle.answers.proofs.StageLemmas.{says-value}
-use Rattle.command_validate.specs.Validate.{IsJudgement, validated}
+use Rattle.command_check.specs.Validate.{IsJudgement, validated}
 
 -- the first file is read and says a league: what is answered at the second is the answer
 after-first : (store : Store) (instance solution first : List ℕ) (league : Instance) → IsFile (store.contents instance) INSTANCE_LIMIT first → instance_of (pieces first) ≡ Ok league

@@ -3,9 +3,9 @@ ghost use Rattle.std.specs.Prelude.{◌≡◌, ◌≤◌, ◌++◌, length, IfOk
 ghost use Rattle.std.specs.List.{All};
 ghost use Rattle.league.specs.Instance.{IsGame};
 ghost use Rattle.answers.specs.SeenReply.{answer_of};
-ghost use Rattle.command_validate.specs.Report.{constraints_text, lines_text};
-ghost use Rattle.command_validate.specs.Assessed.{IsAssessmentOf};
-ghost use Rattle.command_validate.specs.Validate.{IsJudgement};
+ghost use Rattle.command_check.specs.Report.{constraints_text, lines_text};
+ghost use Rattle.command_check.specs.Assessed.{IsAssessmentOf};
+ghost use Rattle.command_check.specs.Validate.{IsJudgement};
 
 use crate::{head, push_constraint, structure_line, verdict};
 use answers::{Reply, Status};

@@ -17,9 +17,9 @@ use Rattle.answers.specs.Reply.{Answer, malformed}
 use Rattle.answers.specs.Stages.{Outcome, says, takes}
 use Rattle.answers.specs.declared.status.Status.{Status}
 use Rattle.answers.specs.declared.status.Status.TheVariants.{Yes, No}
-use Rattle.command_validate.specs.Report.{report_text}
-use Rattle.command_validate.proofs.ReportFacts.{demanding, report_text-thrice, thrice, thrice_report}
-use Rattle.command_validate.specs.Validate.{IsJudgement, IsWellFormedPair, validated}
+use Rattle.command_check.specs.Report.{report_text}
+use Rattle.command_check.proofs.ReportFacts.{demanding, report_text-thrice, thrice, thrice_report}
+use Rattle.command_check.specs.Validate.{IsJudgement, IsWellFormedPair, validated}
 
 -- a store of two files
 abbrev pub league_file : List ℕ

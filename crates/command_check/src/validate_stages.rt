@@ -5,7 +5,7 @@ ghost use Rattle.robinx.specs.Pieces.{pieces};
 ghost use Rattle.robinx.specs.SolutionFile.{solution_of};
 ghost use Rattle.answers.specs.SeenReply.{Answers};
 ghost use Rattle.answers.specs.Stages.{says};
-ghost use Rattle.command_validate.specs.Validate.{IsJudgement, validated};
+ghost use Rattle.command_check.specs.Validate.{IsJudgement, validated};
 
 use crate::judging::judge;
 use answers::{NoValue, Reply, file, league_in, schedule_in};

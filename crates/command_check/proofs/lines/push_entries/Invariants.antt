@@ -1,6 +1,6 @@
 use Rattle.std.proofs.Common.{◌≡◌, ◌++◌, drop, string_bytes}
-use Rattle.command_validate.specs.Report.{entries_text}
-use Rattle.command_validate.proofs.lines.push_entries.Given as goal
+use Rattle.command_check.specs.Report.{entries_text}
+use Rattle.command_check.proofs.lines.push_entries.Given as goal
 
 -- the text so far, and then what is left, is the whole
 abbrev pub invariant-loop-entry : goal.invariant-loop-entry

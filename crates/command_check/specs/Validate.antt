@@ -12,7 +12,7 @@ use Rattle.robinx.specs.declared.instance.TheConstants.{INSTANCE_LIMIT, SOLUTION
 use Rattle.answers.specs.Reply.{Answer}
 use Rattle.answers.specs.Stages.{◌>>=◌, Outcome, reads, says}
 use Rattle.answers.specs.declared.status.Status.TheVariants.{Yes, No}
-use Rattle.command_validate.specs.Report.{report_text}
+use Rattle.command_check.specs.Report.{report_text}
 
 -- the judgement of a schedule: feasible exactly if it is accepted
 pub record IsJudgement (league : Instance) (games : List Game) (answer : Answer) : Type 0 where

@@ -1,6 +1,6 @@
 use Rattle.std.proofs.Common.{◌≡◌, ℕ, [], ◌∷◌, ◌++◌, string_bytes, decimal, refl, arith, ap, sym, ◌∙◌}
 use Rattle.std.specs.Fmt.{digits}
-use Rattle.command_validate.proofs.lines.push_entry.Goals as goal
+use Rattle.command_check.proofs.lines.push_entry.Goals as goal
 
 zero_text : decimal 0 ≡ 48 ∷ []
 unfolding digits

@@ -1,7 +1,7 @@
 use Rattle.std.proofs.Common.{◌<◌, length, sym, arith, string_bytes}
 use Rattle.std.proofs.lemmas.Option.{get_or_from_slice_get}
-use Rattle.command_validate.proofs.ReportLemmas.{line_added}
-use Rattle.command_validate.proofs.judging.push_constraints.Goals as goal
+use Rattle.command_check.proofs.ReportLemmas.{line_added}
+use Rattle.command_check.proofs.judging.push_constraints.Goals as goal
 
 pub loop-k-preserved : goal.loop-k-preserved
 loop-k-preserved c =

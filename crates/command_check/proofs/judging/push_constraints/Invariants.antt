@@ -1,6 +1,6 @@
 use Rattle.std.proofs.Common.{◌≡◌, ◌+◌, ◌++◌, drop, string_bytes}
-use Rattle.command_validate.specs.Report.{constraints_text}
-use Rattle.command_validate.proofs.judging.push_constraints.Given as goal
+use Rattle.command_check.specs.Report.{constraints_text}
+use Rattle.command_check.proofs.judging.push_constraints.Given as goal
 
 -- the text so far, and then the lines of the constraints that are left, is the whole
 abbrev pub invariant-loop-k : goal.invariant-loop-k

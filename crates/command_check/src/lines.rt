@@ -1,7 +1,7 @@
 //! The lines of the report.
 ghost use Rattle.std.specs.Prelude.{◌≡◌, ◌++◌, IfOk, OnOk, string_bytes, sum, codes, decimal};
-ghost use Rattle.command_validate.specs.Report.{head_text, structure_text, verdict_text};
-ghost use Rattle.command_validate.specs.Report.{entries_text, constraint_front, constraint_text};
+ghost use Rattle.command_check.specs.Report.{head_text, structure_text, verdict_text};
+ghost use Rattle.command_check.specs.Report.{entries_text, constraint_front, constraint_text};
 
 use league::{Constraint, League, Wrongs};
 use robinx::type_word;

@@ -3,8 +3,8 @@ use Rattle.robin_io.specs.Outside.{Store, store_between}
 use Rattle.robinx.specs.declared.instance.TheConstants.{INSTANCE_LIMIT, SOLUTION_LIMIT}
 use Rattle.answers.specs.Stages.{IsFile, IsUnread}
 use Rattle.answers.proofs.StageLemmas.{Answers-wider}
-use Rattle.command_validate.proofs.StageLemmas.{validated-last, validated-unread}
-use Rattle.command_validate.proofs.stages.validate.Goals as goal
+use Rattle.command_check.proofs.ValidateLemmas.{validated-last, validated-unread}
+use Rattle.command_check.proofs.validate_stages.validate.Goals as goal
 
 -- the second file has the contents that it had before the first was read
 pub returns-clause-answer : goal.returns-clause-answer

@@ -2,7 +2,7 @@
 use Rattle.std.proofs.Common.{◌≡◌, ℕ, suc, ◌+◌, ◌<◌, List, ◌∷◌, ◌++◌, length, drop, get_or, ap, ◌∙◌, sym, append_assoc, add-one}
 use Rattle.std.proofs.Math.Seq.{drop-cons}
 use Rattle.league.specs.declared.class.Constraint.{Constraint}
-use Rattle.command_validate.specs.Report.{constraint_text, constraints_text}
+use Rattle.command_check.specs.Report.{constraint_text, constraints_text}
 
 -- the line of the next constraint, and then those of the others
 next_line : (k number : ℕ) (constraints : List Constraint) (vectors : List (List ℕ)) (c : Constraint) (entries : List ℕ) → k < length constraints → k < length vectors → get_or constraints k c ≡ c → get_or vectors k entries ≡ entries
