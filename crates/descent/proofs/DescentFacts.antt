@@ -4,7 +4,7 @@ use Rattle.league.proofs.DoubleFour.{four}
 use Rattle.rule_core.specs.declared.rule.Entries.{Ghosts}
 use Rattle.moves.specs.Moves.{moved}
 use Rattle.moves.specs.Neighbours.{home_swap}
-use Rattle.tally.specs.declared.weighted.Weighted.{Weighted}
+use Rattle.descent.specs.declared.weighted.Weighted.{Weighted}
 use Rattle.descent.specs.Score.{IsNoWorse, is_lower, score_on}
 use Rattle.descent.specs.Settled.{IsLowering, IsSettled}
 use Rattle.descent.specs.Trail.{IsClimb, IsTrail}

@@ -4,9 +4,9 @@ use Rattle.std.proofs.lemmas.Bool.{false_from_ne_true}
 use Rattle.std.proofs.lemmas.Bool.Decides.{nat_tests}
 use Rattle.league.specs.Counts.{Counts}
 use Rattle.rule_core.specs.declared.rule.Entries.{Ghosts}
-use Rattle.tally.specs.Tallies.{IsWithin}
-use Rattle.tally.specs.declared.weigh.Sums.{Sums}
-use Rattle.tally.specs.declared.weighted.Weighted.{Weighted}
+use Rattle.descent.specs.Tallies.{IsWithin}
+use Rattle.descent.specs.declared.weigh.Sums.{Sums}
+use Rattle.descent.specs.declared.weighted.Weighted.{Weighted}
 use Rattle.descent.specs.Score.{AreBoundsBelow, IsNoWorse, is_lower, score_on}
 use Rattle.descent.specs.declared.score.Score.{Score}
 

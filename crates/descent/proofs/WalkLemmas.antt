@@ -13,8 +13,8 @@ use Rattle.moves.specs.Neighbours.{all_moves}
 use Rattle.moves.specs.Round.{Edits, round_counts}
 use Rattle.moves.specs.declared.swap.Swap.{Swap}
 use Rattle.rule_core.specs.declared.rule.Entries.{Ghosts}
-use Rattle.tally.specs.Tallies.{Tallied}
-use Rattle.tally.specs.declared.weighted.Weighted.{Weighted}
+use Rattle.descent.specs.Tallies.{Tallied}
+use Rattle.descent.specs.declared.weighted.Weighted.{Weighted}
 use Rattle.descent.specs.Score.{IsCostly, score_on}
 use Rattle.descent.specs.Settled.{IsLowering, IsSettled}
 use Rattle.descent.specs.Trail.{IsTrail}

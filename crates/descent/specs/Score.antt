@@ -2,9 +2,9 @@
 use Rattle.std.specs.Prelude.{◌≡◌, ◌≤◌, true, List}
 use Rattle.league.specs.Counts.{Counts}
 use Rattle.rule_core.specs.declared.rule.Entries.{Ghosts}
-use Rattle.tally.specs.Tallies.{IsAtMost, infeasibility_on, objective_on}
-use Rattle.tally.specs.declared.weigh.Sums.{Sums}
-use Rattle.tally.specs.declared.weighted.Weighted.{Weighted}
+use Rattle.descent.specs.Tallies.{IsAtMost, infeasibility_on, objective_on}
+use Rattle.descent.specs.declared.weigh.Sums.{Sums}
+use Rattle.descent.specs.declared.weighted.Weighted.{Weighted}
 use Rattle.descent.specs.declared.score.Score.{Score}
 pub use Rattle.descent.specs.Lower.{is_lower, IsNoWorse}
 

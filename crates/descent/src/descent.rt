@@ -12,6 +12,7 @@ ghost use Rattle.descent.specs.Trail.{IsTrail};
 ghost use Rattle.robin_watch.specs.Limits.{IsKeptTo};
 
 use crate::season::season_of;
+use crate::tally::Tally;
 use crate::walk::Walk;
 use league::Schedule;
 use moves::MoveList;
@@ -19,7 +20,6 @@ use robin_watch::{Unwatched, Watch};
 use rule_core::{Rule, Steps};
 use std::alloc::{AllocError, Global};
 use std::marker::Model;
-use tally::Tally;
 
 /// What a descent did: the games at its start in order, its moves, and whether the games at its end are settled. It is
 /// `descend` alone that makes one.

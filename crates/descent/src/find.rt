@@ -10,10 +10,10 @@ ghost use Rattle.descent.specs.Settled.{IsLowering};
 ghost use Rattle.descent.specs.Walks.{IsFullEdit, KeepsGames};
 
 use crate::score::lowers;
+use crate::tally::Tally;
 use moves::{Board, Edit, Neighbours, Swap, edit_of};
 use rule_core::{Rule, Steps};
 use std::alloc::{AllocError, Global};
-use tally::Tally;
 
 /// All moves of a league of n teams, in their order.
 ///

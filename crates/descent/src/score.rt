@@ -8,9 +8,10 @@ ghost use Rattle.moves.specs.Round.{edited};
 ghost use Rattle.descent.specs.Score as scores;
 ghost use Rattle.descent.specs.Walks.{KeepsGames};
 
+use crate::tally::Tally;
+use crate::weigh::Sums;
 use moves::Edit;
 use rule_core::{Entries, Rule, Steps};
-use tally::{Sums, Tally};
 
 /// What the hard rules cost, and what the soft ones cost. Scores are compared by the infeasibility first, and by the
 /// objective where the infeasibilities are equal.

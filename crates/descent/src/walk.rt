@@ -16,12 +16,12 @@ ghost use Rattle.robin_watch.specs.Limits.{IsKeptTo};
 use crate::find::{all_moves, is_lowering};
 use crate::look::{Ended, is_asked_at};
 use crate::score::Score;
+use crate::tally::Tally;
 use league::Schedule;
 use moves::{Board, Edit, MoveList, Swap};
 use robin_watch::{News, Watch};
 use rule_core::{Rule, Steps};
 use std::alloc::{AllocError, Global};
-use tally::Tally;
 
 /// A double round robin on a board, all moves with the place of the next one to try, and the moves made so far.
 #[derive(Drop)]

@@ -35,7 +35,7 @@ use Rattle.refutation.specs.Steps.Step.{Clause}
 use Rattle.clause_search.specs.Kept.{MayKeep, step_at, steps_at}
 use Rattle.clause_search.specs.News.{row_of}
 use Rattle.moves.specs.Moves.{game}
-use Rattle.tally.specs.declared.weigh.Sums.{Sums}
+use Rattle.descent.specs.declared.weigh.Sums.{Sums}
 use Rattle.descent.specs.Score.{AreBoundsBelow}
 use Rattle.descent.specs.declared.score.Score.{Score}
 use Rattle.league_search.specs.PatternAnswers.{IsPatternAnswer}

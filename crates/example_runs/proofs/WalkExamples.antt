@@ -23,10 +23,10 @@ use Rattle.rule_core.specs.Ready.{entry_count}
 use Rattle.rule_core.specs.Rule.{IsRuleOf}
 use Rattle.rule_core.specs.Touched.{is_watched, most_touched, touched_keys}
 use Rattle.rule_core.specs.declared.rule.Entries.{Ghosts}
-use Rattle.tally.specs.League.{IsWeightedOf}
-use Rattle.tally.specs.Tallies.{IsAtMost, IsWithin}
-use Rattle.tally.specs.declared.weigh.Sums.{Sums}
-use Rattle.tally.specs.declared.weighted.Weighted.{Weighted}
+use Rattle.descent.specs.League.{IsWeightedOf}
+use Rattle.descent.specs.Tallies.{IsAtMost, IsWithin}
+use Rattle.descent.specs.declared.weigh.Sums.{Sums}
+use Rattle.descent.specs.declared.weighted.Weighted.{Weighted}
 use Rattle.moves.specs.Neighbours.{home_swap}
 use Rattle.descent.specs.Score.{IsNoWorse}
 use Rattle.descent.specs.Trail.{IsClimb, IsTrail}

@@ -12,12 +12,12 @@ use Rattle.moves.specs.Moves.{IsLegal, IsOfLeague, moved}
 use Rattle.moves.specs.Round.{AreApart, Edits, IsEdit, edited}
 use Rattle.moves.specs.declared.swap.Swap.{Swap}
 use Rattle.rule_core.specs.declared.rule.Entries.{Ghosts}
-use Rattle.tally.specs.HardSum.{hard_sum}
-use Rattle.tally.specs.League.{AreRulesOf}
-use Rattle.tally.specs.Tallies.{IsAtMost, IsWithin, infeasibility_on, objective_on}
-use Rattle.tally.specs.declared.weigh.Sums.{Sums}
-use Rattle.tally.specs.declared.weighted.Weighted.{Weighted}
-use Rattle.tally.proofs.LeagueLemmas.{hard_sum-met, infeasibility-league, objective-league}
+use Rattle.descent.specs.HardSum.{hard_sum}
+use Rattle.descent.specs.League.{AreRulesOf}
+use Rattle.descent.specs.Tallies.{IsAtMost, IsWithin, infeasibility_on, objective_on}
+use Rattle.descent.specs.declared.weigh.Sums.{Sums}
+use Rattle.descent.specs.declared.weighted.Weighted.{Weighted}
+use Rattle.descent.proofs.LeagueLemmas.{hard_sum-met, infeasibility-league, objective-league}
 use Rattle.resume.specs.Kept.{Keeps}
 use Rattle.resume.specs.Alone.{leaves_alone}
 use Rattle.resume.specs.Changed.{IsNearer, changed_on}

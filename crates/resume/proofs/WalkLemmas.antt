@@ -20,10 +20,10 @@ use Rattle.moves.specs.Neighbours.{all_moves}
 use Rattle.moves.specs.Round.{Edits, round_counts}
 use Rattle.moves.specs.declared.swap.Swap.{Swap}
 use Rattle.rule_core.specs.declared.rule.Entries.{Ghosts}
-use Rattle.tally.specs.League.{AreRulesOf}
-use Rattle.tally.specs.Tallies.{Tallied, objective_on}
-use Rattle.tally.specs.declared.weighted.Weighted.{Weighted}
-use Rattle.tally.proofs.LeagueLemmas.{objective-league}
+use Rattle.descent.specs.League.{AreRulesOf}
+use Rattle.descent.specs.Tallies.{Tallied, objective_on}
+use Rattle.descent.specs.declared.weighted.Weighted.{Weighted}
+use Rattle.descent.proofs.LeagueLemmas.{objective-league}
 use Rattle.resume.specs.Kept.{Keeps}
 use Rattle.resume.specs.Changed.{IsAtMost, IsNearer, changed_on}
 use Rattle.resume.specs.Nearing.{IsEnd, IsNearest}

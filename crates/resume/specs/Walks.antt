@@ -14,8 +14,8 @@ use Rattle.moves.specs.Round.{Edits, edited, round_counts}
 use Rattle.moves.specs.declared.swap.Swap.{Swap}
 use Rattle.resume.specs.Kept.{Keeps}
 use Rattle.rule_core.specs.declared.rule.Entries.{Ghosts}
-use Rattle.tally.specs.League.{AreRulesOf}
-use Rattle.tally.specs.Tallies.{Tallied, objective_on}
+use Rattle.descent.specs.League.{AreRulesOf}
+use Rattle.descent.specs.Tallies.{Tallied, objective_on}
 use Rattle.resume.specs.Changed.{IsAtMost, IsNearer, changed_on}
 use Rattle.resume.specs.Nearing.{IsNearing}
 use Rattle.resume.specs.declared.ground.Ground.{Ground}

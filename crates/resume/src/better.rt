@@ -7,7 +7,7 @@ ghost use Rattle.league.specs.Counts.{counts_of};
 ghost use Rattle.league.specs.Instance.{IsGame};
 ghost use Rattle.descent.specs.Walks.{IsFullEdit, KeepsGames};
 ghost use Rattle.moves.specs.Moves.{IsOfLeague};
-ghost use Rattle.tally.specs.Tallies.{IsAtMost};
+ghost use Rattle.descent.specs.Tallies.{IsAtMost};
 ghost use Rattle.resume.specs.Alone as alone;
 ghost use Rattle.resume.specs.Changed as changed;
 ghost use Rattle.resume.specs.Changed.{IsNearer};
@@ -15,10 +15,10 @@ ghost use Rattle.resume.specs.Walks as walks;
 ghost use Rattle.resume.specs.Walks.{IsBetter, IsGround};
 
 use crate::ground::Ground;
+use descent::{Sums, Tally};
 use league::Game;
 use moves::{Edit, Swap, edit_of};
 use rule_core::{Cells, Entries, Rule, Steps};
-use tally::{Sums, Tally};
 
 /// Whether each of some games takes place from slot k on.
 fn are_open(games: &[Game], k: u16) -> bool

@@ -15,14 +15,13 @@ ghost use Rattle.resume.specs.Walks.{IsBetter, IsDown, IsFoundAt, IsWalkFrom, Is
 use crate::better::{is_better, is_least};
 use crate::ground::Ground;
 use crate::old_plan::OldPlan;
-use descent::{Ended, all_moves, is_asked_at};
+use descent::{Ended, Tally, all_moves, is_asked_at};
 use deviation::counted;
 use league::Schedule;
 use moves::{Board, Edit, Swap};
 use robin_watch::{News, Phase, Watch};
 use rule_core::{Rule, Steps};
 use std::alloc::{AllocError, Global};
-use tally::Tally;
 
 /// The most moves of a descent (own limit): as many as `solve` makes where nothing is said.
 const MOST_MOVES: u64 = 10_000;

@@ -6,19 +6,18 @@ ghost use Rattle.league.specs.Counts.{counts_of};
 ghost use Rattle.league.specs.Instance.{IsGame};
 ghost use Rattle.league.specs.Structure.{IsRoundRobin};
 ghost use Rattle.rule_core.specs.Table.{table_counts};
-ghost use Rattle.tally.specs.League.{AreRulesOf};
+ghost use Rattle.descent.specs.League.{AreRulesOf};
 ghost use Rattle.resume.specs.Nearing.{IsEnd, IsNearest};
 ghost use Rattle.resume.specs.Walks.{IsSeasonOn};
 
 use crate::kept_walk::Walk;
 use crate::old_plan::OldPlan;
-use descent::season_of;
+use descent::{Tally, league_tally, season_of};
 use deviation::AnyRule;
 use league::Schedule;
 use robin_watch::Watch;
 use rule_core::{Entries, Plain, Steps};
 use std::alloc::{AllocError, Global};
-use tally::{Tally, league_tally};
 
 /// The season at the end of a descent, in order, with its objective, and whether it is known to be settled.
 #[derive(Drop)]

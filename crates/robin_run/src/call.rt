@@ -25,7 +25,9 @@ use command_check::{check, validate};
 use command_explain::{explain_file, part_file};
 use command_line::{Goal, Words, members, read_words, room_of};
 use command_prove::{Aim, bound_file, prove_file};
-use command_resume::{Audit, NearResumption, Resumption, audit_file, resume_file, resume_near_file};
+use command_resume::{
+    Audit, NearResumption, Resumption, audit_file, resume_file, resume_near_file,
+};
 use command_rows::{ReadyRows, rows_file, values_file, write_rows};
 use command_show::{Form, demands, show};
 use command_solve::{circle, make_league, patterns_file, solve_file, solve_from_file, trial};

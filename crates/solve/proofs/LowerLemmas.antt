@@ -12,10 +12,10 @@ use Rattle.league.specs.Structure.{IsRoundRobin}
 use Rattle.league.specs.declared.game.Game.{Game}
 use Rattle.moves.specs.declared.swap.Swap.{Swap}
 use Rattle.rule_core.specs.declared.rule.Entries.{Ghosts}
-use Rattle.tally.specs.League.{AreRulesOf}
-use Rattle.tally.specs.Tallies.{objective_on}
-use Rattle.tally.specs.declared.weighted.Weighted.{Weighted}
-use Rattle.tally.proofs.LeagueLemmas.{objective-league}
+use Rattle.descent.specs.League.{AreRulesOf}
+use Rattle.descent.specs.Tallies.{objective_on}
+use Rattle.descent.specs.declared.weighted.Weighted.{Weighted}
+use Rattle.descent.proofs.LeagueLemmas.{objective-league}
 use Rattle.descent.specs.Descended.{Descended}
 use Rattle.descent.specs.Score.{IsCostly}
 use Rattle.descent.specs.Settled.{IsSettled}

@@ -4,7 +4,7 @@ use Rattle.std.proofs.lemmas.Bool.Decides.{nat_tests}
 use Rattle.league.specs.Accepted.{IsAccepted, objective}
 use Rattle.league.specs.Counts.{Counts, counts_of}
 use Rattle.league.specs.Instance.{Instance}
-use Rattle.tally.specs.HardSum.{hard_sum}
+use Rattle.descent.specs.HardSum.{hard_sum}
 use Rattle.descent.specs.Lower.{IsNoWorse}
 use Rattle.descent.specs.declared.score.Score.{Score}
 use Rattle.descent.proofs.TrailLemmas.{trails-stay_feasible}

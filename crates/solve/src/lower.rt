@@ -6,18 +6,17 @@ ghost use Rattle.league.specs.Accepted as costs;
 ghost use Rattle.league.specs.Counts.{counts_of};
 ghost use Rattle.league.specs.Instance.{IsGame};
 ghost use Rattle.rule_core.specs.Table.{table_counts};
-ghost use Rattle.tally.specs.League.{AreRulesOf};
+ghost use Rattle.descent.specs.League.{AreRulesOf};
 ghost use Rattle.descent.specs.Settled.{IsSettled};
 ghost use Rattle.solve.specs.Solutions.{IsSchedule, league_score};
 ghost use Rattle.solve.specs.Tried.{IsSeasonBy};
 
-use descent::{Descent, descend_watched, season_of};
+use descent::{Descent, Tally, descend_watched, league_tally, season_of};
 use deviation::AnyRule;
 use league::{League, Schedule};
 use robin_watch::{Unwatched, Watch};
 use rule_core::{Entries, Plain, Steps};
 use std::alloc::{AllocError, Global};
-use tally::{Tally, league_tally};
 
 /// A schedule that is accepted, in order, with its objective, and the descent that led to it.
 #[derive(Drop)]

@@ -10,10 +10,10 @@ use Rattle.league.specs.Instance.{Instance}
 use Rattle.league.specs.Structure.{IsRoundRobin}
 use Rattle.league.specs.declared.game.Game.{Game}
 use Rattle.rule_core.specs.declared.rule.Entries.{Ghosts}
-use Rattle.tally.specs.League.{AreRulesOf, hard_sum}
-use Rattle.tally.specs.Tallies.{objective_on}
-use Rattle.tally.specs.declared.weighted.Weighted.{Weighted}
-use Rattle.tally.proofs.LeagueLemmas.{hard_sum-met, infeasibility-league, objective-league}
+use Rattle.descent.specs.League.{AreRulesOf, hard_sum}
+use Rattle.descent.specs.Tallies.{objective_on}
+use Rattle.descent.specs.declared.weighted.Weighted.{Weighted}
+use Rattle.descent.proofs.LeagueLemmas.{hard_sum-met, infeasibility-league, objective-league}
 use Rattle.descent.specs.Score.{IsNoWorse, score_on}
 use Rattle.descent.specs.declared.score.Score.{Score}
 use Rattle.walk.specs.Standing.{IsKept, IsStandingOn, IsWalkerIn}

@@ -6,7 +6,7 @@ use Rattle.league.specs.Counts.{Counts, counts_of}
 use Rattle.league.specs.Instance.{Instance, IsGame}
 use Rattle.league.specs.Order.{IsInOrder}
 use Rattle.league.specs.Structure.{IsRoundRobin}
-use Rattle.tally.specs.HardSum.{hard_sum}
+use Rattle.descent.specs.HardSum.{hard_sum}
 use Rattle.descent.specs.declared.score.Score.{Score}
 use Rattle.walk.specs.declared.best.Best.{Best}
 

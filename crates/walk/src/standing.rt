@@ -7,7 +7,7 @@ ghost use Rattle.league.specs.Structure.{IsRoundRobin};
 ghost use Rattle.rule_core.specs.Table.{table_counts};
 ghost use Rattle.moves.specs.Moves.{IsOfLeague};
 ghost use Rattle.moves.specs.Round.{round_counts};
-ghost use Rattle.tally.specs.Tallies.{OnlyTallied};
+ghost use Rattle.descent.specs.Tallies.{OnlyTallied};
 ghost use Rattle.descent.specs.Score.{IsNoWorse, score_on};
 ghost use Rattle.walk.specs.Standing.{IsKept, IsStandingOn};
 
@@ -20,7 +20,7 @@ use crate::draws::{
 use crate::threshold::{Cooling, drawn_threshold};
 use crate::trades::{Trade, Traded, drawn_trade};
 use crate::weighed::WeighedParts;
-use descent::Score;
+use descent::{Score, Sums, Tally};
 use league::{Schedule, TeamId};
 use moves::{Board, Edit, Swap, edit_of};
 use rand_core::SeedableRng;
@@ -28,7 +28,6 @@ use rand_pcg::Pcg32;
 use robin_watch::Watch;
 use rule_core::{Plain, Rule, Steps};
 use std::alloc::{AllocError, Global};
-use tally::{Sums, Tally};
 
 /// How many moves are drawn, legal or not, for each that may be tried.
 const DRAWS: u64 = 8;

@@ -2,12 +2,11 @@
 ghost use Rattle.std.specs.Prelude.{◌≡◌};
 
 use crate::lists::middle_of;
-use descent::Score;
+use descent::{Score, Sums};
 use league::League;
 use rand_core::utils::NextWord;
 use rand_pcg::Pcg32;
 use std::alloc::{AllocError, Global};
-use tally::Sums;
 
 /// Eight times the negated logarithm, to the base 2, of a random number below 1.
 fn eighths(random: &mut Pcg32) -> u64 {

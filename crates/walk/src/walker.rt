@@ -6,7 +6,7 @@ ghost use Rattle.league.specs.Instance.{Instance, IsGame};
 ghost use Rattle.league.specs.Structure.{IsRoundRobin};
 ghost use Rattle.rule_core.specs.Table.{table_counts};
 ghost use Rattle.moves.specs.Round.{round_counts};
-ghost use Rattle.tally.specs.League.{AreRulesOf};
+ghost use Rattle.descent.specs.League.{AreRulesOf};
 ghost use Rattle.descent.specs.Score.{IsNoWorse};
 ghost use Rattle.walk.specs.Standing.{HasKeptHere, IsStandingOn, IsWalkerIn};
 ghost use Rattle.walk.specs.Walked.{league_score};
@@ -18,14 +18,13 @@ use crate::standing::{STRETCH, Stage, Standing};
 use crate::threshold::{Cooling, soft_heat};
 use crate::weighed::WeighedParts;
 use crate::weights::Weighing;
-use descent::Score;
+use descent::{Score, Tally, league_tally};
 use deviation::AnyRule;
 use league::{Game, League, Schedule};
 use moves::Board;
 use robin_watch::{Listener, News};
 use rule_core::{Entries, Plain, Steps};
 use std::alloc::{AllocError, Global};
-use tally::{Tally, league_tally};
 
 /// A search ends after so many moves tried that didn't lower what the hard constraints cost.
 const PATIENCE: u64 = 1_600_000;

@@ -11,14 +11,13 @@ use crate::canonical::boards::is_legal;
 use crate::canonical::swaps::step_of;
 use crate::canonical::tried::show_tried;
 use crate::telling::number_in;
-use descent::descend;
+use descent::{Tally, descend, league_tally};
 use deviation::AnyRule;
 use league::{League, Schedule};
 use moves::{Board, Edit};
 use rule_core::{Plain, Steps};
 use std::alloc::{AllocError, Global};
 use std::io;
-use tally::{Tally, league_tally};
 
 /// Shows where a descent of at most so many moves leads, each of which keeps the two phases.
 pub fn show_descent(

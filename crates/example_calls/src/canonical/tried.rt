@@ -8,13 +8,13 @@ ghost use Rattle.moves.specs.Round.{round_counts};
 
 use crate::canonical::boards::is_legal;
 use crate::canonical::counting::changed;
+use descent::{Sums, Tally};
 use deviation::{AnyRule, Assessment, assess};
 use league::{League, Schedule};
 use moves::{Board, Edit, Neighbours};
 use rule_core::{Plain, Steps};
 use std::alloc::{AllocError, Global};
 use std::io;
-use tally::{Sums, Tally};
 
 /// How many legal moves were tried, and for how many of them a tally weighs and keeps what is counted afresh, and is as
 /// it was once they are taken back.

@@ -4,7 +4,7 @@ use Rattle.std.proofs.lemmas.Bool.Decides.{nat_tests}
 use Rattle.rule_core.specs.Table.{Table, table_counts}
 use Rattle.league.specs.Accepted.{objective}
 use Rattle.league.specs.Counts.{Counts}
-use Rattle.tally.proofs.LeagueLemmas.{objective-league}
+use Rattle.descent.proofs.LeagueLemmas.{objective-league}
 use Rattle.resume.specs.Changed.{changed_on}
 use Rattle.resume.proofs.better.is_least.Goals as goal
 

@@ -3,8 +3,8 @@ use Rattle.rule_core.specs.Table.{table_counts}
 use Rattle.league.specs.Counts.{Counts}
 use Rattle.league.specs.declared.game.Game.{Game}
 use Rattle.moves.specs.Round.{edited}
-use Rattle.tally.specs.Tallies.{IsWithin}
-use Rattle.tally.proofs.LeagueLemmas.{objective-league}
+use Rattle.descent.specs.Tallies.{IsWithin}
+use Rattle.descent.proofs.LeagueLemmas.{objective-league}
 use Rattle.resume.specs.Walks.{LeadsNearer, times_in}
 use Rattle.resume.proofs.BetterLemmas.{none-leads, some-leads, within-leads}
 use Rattle.resume.proofs.better.is_nearer.Goals as goal

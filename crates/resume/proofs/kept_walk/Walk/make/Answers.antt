@@ -5,8 +5,8 @@ use Rattle.rule_core.specs.Table.{table_counts}
 use Rattle.descent.proofs.EditLemmas.{edit-leads, edited-is}
 use Rattle.moves.specs.Moves.{moved}
 use Rattle.moves.specs.Round.{edited, round_counts}
-use Rattle.tally.specs.League.{AreRulesOf}
-use Rattle.tally.specs.declared.weighted.Weighted.{Weighted}
+use Rattle.descent.specs.League.{AreRulesOf}
+use Rattle.descent.specs.declared.weighted.Weighted.{Weighted}
 use Rattle.resume.proofs.kept_walk.Walk.make.Goals as goal
 
 pub apply-requires-2-clause-there : goal.apply-requires-2-clause-there

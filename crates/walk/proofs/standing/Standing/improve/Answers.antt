@@ -2,7 +2,7 @@ use Rattle.std.proofs.Common.{◌≡◌, ℕ, Bool, List, refl, ap, arith, subst
 use Rattle.league.specs.Counts.{Counts}
 use Rattle.rule_core.specs.Table.{table_counts}
 use Rattle.moves.specs.Round.{round_counts}
-use Rattle.tally.specs.declared.weighted.Weighted.{Weighted}
+use Rattle.descent.specs.declared.weighted.Weighted.{Weighted}
 use Rattle.descent.specs.Score.{IsNoWorse, score_on}
 use Rattle.descent.specs.declared.score.Score.{Score}
 use Rattle.walk.specs.Standing.{IsStandingOn}

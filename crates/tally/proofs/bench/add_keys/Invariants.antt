@@ -1,6 +1,0 @@
-use Rattle.std.proofs.Common.{take}
-use Rattle.tally.specs.KeySet.{AreAdded}
-use Rattle.tally.proofs.bench.add_keys.Given as goal
-
-abbrev pub invariant-loop-place : goal.invariant-loop-place
-invariant-loop-place l = AreAdded (take l.place l.keys.list) l.initial.found l.found

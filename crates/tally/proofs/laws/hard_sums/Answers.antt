@@ -1,8 +1,0 @@
-use Rattle.tally.proofs.LeagueLemmas.{hard_sum-met, hard_sum-own}
-use Rattle.tally.proofs.laws.hard_sums.Goals as goal
-
-pub returns-clause-own : goal.returns-clause-own
-returns-clause-own c = hard_sum-own
-
-pub returns-clause-met : goal.returns-clause-met
-returns-clause-met c = hard_sum-met

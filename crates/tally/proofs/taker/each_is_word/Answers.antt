@@ -1,5 +1,0 @@
-use Rattle.std.proofs.Math.Facts.{Fits-lt-pow}
-use Rattle.tally.proofs.taker.each_is_word.Goals as goal
-
-pub returns : goal.returns
-returns c = λ k. Fits-lt-pow (c.type_inv.entries k)
