@@ -10,11 +10,21 @@ use std::{fs, io};
 const ROOM: usize = 4_000_000;
 
 /// What a run wrote, the status that it ended with, and what a person was told.
-#[derive(Drop)]
 pub struct Ended {
     out: MemSink,
     pub status: u8,
     told: MemSink,
+}
+
+/// The parts of a run's end are let go together.
+impl Drop for Ended {
+    fn drop(self) {
+        let Ended {
+            out: _,
+            status: _,
+            told: _,
+        } = self;
+    }
 }
 
 impl Ended {

@@ -56,18 +56,14 @@ fn main(rt: HostRuntime) -> io::Result<()> {
 /// Shows a season of two games of forty teams, not in order, with a score that needs 128 bits.
 fn show_scored(rt: &HostRuntime) -> io::Result<()> {
     let mut season = Schedule::new(rt.alloc());
-    season.push(game(39, 0, 77))?;
-    season.push(game(1, 2, 0))?;
+    for (home, away, slot) in [(39, 0, 77), (1, 2, 0)] {
+        season.push(Game {
+            home: TeamId(home),
+            away: TeamId(away),
+            slot: SlotId(slot),
+        })?;
+    }
     let text = solution_text(rt.alloc(), &season, Some((3, u128::MAX)))?;
     let text = str::from_utf8(&text).unwrap_or("no text");
     print!(rt; "a season with its score\n{text}")
-}
-
-/// A game of two teams in a slot.
-fn game(home: u16, away: u16, slot: u16) -> Game {
-    Game {
-        home: TeamId(home),
-        away: TeamId(away),
-        slot: SlotId(slot),
-    }
 }
