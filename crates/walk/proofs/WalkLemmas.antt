@@ -16,7 +16,8 @@ use Rattle.descent.specs.declared.weighted.Weighted.{Weighted}
 use Rattle.descent.proofs.LeagueLemmas.{hard_sum-met, infeasibility-league, objective-league}
 use Rattle.descent.specs.Score.{IsNoWorse, score_on}
 use Rattle.descent.specs.declared.score.Score.{Score}
-use Rattle.walk.specs.Standing.{IsKept, IsStandingOn, IsWalkerIn}
+use Rattle.descent.proofs.ScoreLemmas.{IsNoWorse-itself}
+use Rattle.walk.specs.Standing.{IsFurther, IsKept, IsStandingOn, IsWalkerIn}
 use Rattle.walk.specs.Walked.{IsSeasonOf, league_score}
 use Rattle.walk.specs.declared.best.Best.{Best}
 use Rattle.walk.specs.declared.best.Kept.{Kept}
@@ -31,6 +32,34 @@ both a b c d e f first second = grind (arith, nat_tests)
 pub IsNoWorse-both : (a b c : Score) → IsNoWorse a b → IsNoWorse b c → IsNoWorse a c
 IsNoWorse-both a b c first second =
     both a.infeasibility a.objective b.infeasibility b.objective c.infeasibility c.objective first second
+
+-- a walk that doesn't go on
+pub IsFurther-same : (league : Instance) (walker : Walker) → IsWalkerIn league walker
+    → IsFurther league walker.best.score walker.left walker
+IsFurther-same league walker is = record {
+  walker = is;
+  no_worse = IsNoWorse-itself walker.best.score;
+  fewer = omega arith;
+}
+
+-- a walk that went on twice went on
+pub IsFurther-both : (league : Instance) (score : Score) (left : ℕ) (mid after : Walker)
+    → IsFurther league score left mid → IsFurther league mid.best.score mid.left after
+    → IsFurther league score left after
+IsFurther-both league score left mid after first second = record {
+  walker = second.walker;
+  no_worse = IsNoWorse-both after.best.score mid.best.score score second.no_worse first.no_worse;
+  fewer = omega (arith, second.fewer, first.fewer);
+}
+
+-- the same from equal games and as many moves left
+pub IsFurther-after : (league : Instance) (best kept : Kept) (left more : ℕ) (after : Walker) → kept ≡ best → more ≡ left
+    → IsFurther league kept.score more after → IsFurther league best.score left after
+IsFurther-after league best kept left more after same same_left is = record {
+  walker = is.walker;
+  no_worse = subst (λ (k : Kept). IsNoWorse after.best.score k.score) same is.no_worse;
+  fewer = omega (arith, same_left, is.fewer);
+}
 
 pub round_robin-at : (n k : ℕ) (phased said : Bool) (m : Counts) → k ≡ n → said ≡ phased → IsRoundRobin k said m
     → IsRoundRobin n phased m

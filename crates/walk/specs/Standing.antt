@@ -41,6 +41,18 @@ pub record IsWalkerIn (league : Instance) (walker : Walker) : Type 0 where
   pub room : league.n * league.n ≤ vec_capacity walker.games
   pub best : IsKept league.n league.phased (league_score league) walker.best
 
+-- a walk in a league went on: its best games aren't worse than ones of a score, and it has at most so many moves left
+pub record IsFurther (league : Instance) (score : Score) (left : ℕ) (after : Walker) : Type 0 where
+  pub walker : IsWalkerIn league after
+  pub no_worse : IsNoWorse after.best.score score
+  pub fewer : after.left ≤ left
+
+-- a walk in a league stands somewhere, with these best games and so many moves left
+pub record IsElsewhere (league : Instance) (kept : Kept) (moves : ℕ) (after : Walker) : Type 0 where
+  pub walker : IsWalkerIn league after
+  pub best : after.best ≡ kept
+  pub left : after.left ≡ moves
+
 -- the best games that a walk kept aren't worse than those on which it stands
 abbrev pub HasKeptHere : Instance → Walker → Type 0
 HasKeptHere league walker =

@@ -1,11 +1,10 @@
 //! Walks from the circle method's season, which has few breaks, with the teams in random orders.
-ghost use Rattle.std.specs.Prelude.{◌≡◌, ◌≤◌, OnOk};
+ghost use Rattle.std.specs.Prelude.{OnOk};
 ghost use Rattle.std.specs.List.{All};
 ghost use Rattle.league.specs.Counts.{counts_of};
 ghost use Rattle.league.specs.Instance.{IsGame};
 ghost use Rattle.league.specs.Structure.{IsRoundRobin};
-ghost use Rattle.descent.specs.Score.{IsNoWorse};
-ghost use Rattle.walk.specs.Standing.{IsWalkerIn};
+ghost use Rattle.walk.specs.Standing.{IsElsewhere, IsFurther, IsWalkerIn};
 
 use crate::course::Course;
 use crate::scale::usual_change;
@@ -43,9 +42,7 @@ impl Walker {
         watch: &W,
     ) -> Result<bool, AllocError>
         requires walker { IsWalkerIn league.now self.old }
-        ensures walker { OnOk result (IsWalkerIn league.now self.new) }
-        ensures no_worse { OnOk result (IsNoWorse self.new.best.score self.old.best.score) }
-        ensures left { OnOk result (self.new.left ≤ self.old.left) }
+        ensures { OnOk result (IsFurther league.now self.old.best.score self.old.left self.new) }
     {
         let before = self.best.score();
         if before.infeasibility > 0 || self.is_done() {
@@ -72,9 +69,7 @@ impl Walker {
         requires walker { IsWalkerIn league.now self.old }
         requires fit { All (IsGame league.now.n) season.now }
         requires round_robin { IsRoundRobin league.now.n league.now.phased (counts_of season.now) }
-        ensures walker { OnOk result (IsWalkerIn league.now self.new) }
-        ensures no_worse { OnOk result (IsNoWorse self.new.best.score self.old.best.score) }
-        ensures left { OnOk result (self.new.left ≤ self.old.left) }
+        ensures { OnOk result (IsFurther league.now self.old.best.score self.old.left self.new) }
     {
         let before = self.best.score();
         let usual = self.usual_change(alloc, league)?;
@@ -112,9 +107,7 @@ impl Walker {
         requires walker { IsWalkerIn league.now self.old }
         requires fit { All (IsGame league.now.n) season.now }
         requires round_robin { IsRoundRobin league.now.n league.now.phased (counts_of season.now) }
-        ensures walker { OnOk result (IsWalkerIn league.now self.new) }
-        ensures no_worse { OnOk result (IsNoWorse self.new.best.score self.old.best.score) }
-        ensures left { OnOk result (self.new.left ≤ self.old.left) }
+        ensures { OnOk result (IsFurther league.now self.old.best.score self.old.left self.new) }
     {
         self.stand_at(alloc, league, season)?;
         self.standing.relabel();
@@ -145,9 +138,7 @@ impl Walker {
         watch: &W,
     ) -> Result<u128, AllocError>
         requires walker { IsWalkerIn league.now self.old }
-        ensures walker { OnOk result (IsWalkerIn league.now self.new) }
-        ensures no_worse { OnOk result (IsNoWorse self.new.best.score self.old.best.score) }
-        ensures left { OnOk result (self.new.left ≤ self.old.left) }
+        ensures { OnOk result (IsFurther league.now self.old.best.score self.old.left self.new) }
     {
         let mut parts = WeighedParts::new(alloc, league, Weighing::Together(course.weight))?;
         self.walk_on_parts(alloc, league, &mut parts, course, watch)
@@ -166,9 +157,7 @@ impl Walker {
         watch: &W,
     ) -> Result<u128, AllocError>
         requires walker { IsWalkerIn league.now self.old }
-        ensures walker { OnOk result (IsWalkerIn league.now self.new) }
-        ensures no_worse { OnOk result (IsNoWorse self.new.best.score self.old.best.score) }
-        ensures left { OnOk result (self.new.left ≤ self.old.left) }
+        ensures { OnOk result (IsFurther league.now self.old.best.score self.old.left self.new) }
     {
         let end = self.left.saturating_sub(course.moves);
         let mut lowest = u128::MAX;
@@ -197,9 +186,7 @@ impl Walker {
     /// Only where memory runs out.
     fn usual_change(&mut self, alloc: Global, league: &League) -> Result<u64, AllocError>
         requires walker { IsWalkerIn league.now self.old }
-        ensures walker { OnOk result (IsWalkerIn league.now self.new) }
-        ensures best { OnOk result (self.new.best ≡ self.old.best) }
-        ensures left { OnOk result (self.new.left ≡ self.old.left) }
+        ensures { OnOk result (IsElsewhere league.now self.old.best self.old.left self.new) }
     {
         let mut parts = WeighedParts::on(alloc, league, Weighing::SOFT, &self.standing.board)?;
         let change = usual_change(
@@ -217,9 +204,7 @@ impl Walker {
     /// Only where memory runs out.
     fn stand_on_best(&mut self, alloc: Global, league: &League) -> Result<(), AllocError>
         requires walker { IsWalkerIn league.now self.old }
-        ensures walker { OnOk result (IsWalkerIn league.now self.new) }
-        ensures best { OnOk result (self.new.best ≡ self.old.best) }
-        ensures left { OnOk result (self.new.left ≡ self.old.left) }
+        ensures { OnOk result (IsElsewhere league.now self.old.best self.old.left self.new) }
     {
         let schedule = self.best.schedule(alloc)?;
         self.stand_at(alloc, league, &schedule)

@@ -1,7 +1,6 @@
 //! Walks on the hard constraints that cool slowly, for leagues that are hard to meet.
-ghost use Rattle.std.specs.Prelude.{◌≤◌, OnOk};
-ghost use Rattle.descent.specs.Score.{IsNoWorse};
-ghost use Rattle.walk.specs.Standing.{IsWalkerIn};
+ghost use Rattle.std.specs.Prelude.{OnOk};
+ghost use Rattle.walk.specs.Standing.{IsFurther, IsWalkerIn};
 
 use crate::standing::{STRETCH, Stage};
 use crate::walker::Walker;
@@ -47,9 +46,7 @@ impl Walker {
         watch: &W,
     ) -> Result<(), AllocError>
         requires walker { IsWalkerIn league.now self.old }
-        ensures walker { OnOk result (IsWalkerIn league.now self.new) }
-        ensures no_worse { OnOk result (IsNoWorse self.new.best.score self.old.best.score) }
-        ensures left { OnOk result (self.new.left ≤ self.old.left) }
+        ensures { OnOk result (IsFurther league.now self.old.best.score self.old.left self.new) }
     {
         if self.budget < ENOUGH || search < FIRST {
             return Ok(());
@@ -72,9 +69,7 @@ impl Walker {
         watch: &W,
     ) -> Result<(), AllocError>
         requires walker { IsWalkerIn league.now self.old }
-        ensures walker { OnOk result (IsWalkerIn league.now self.new) }
-        ensures no_worse { OnOk result (IsNoWorse self.new.best.score self.old.best.score) }
-        ensures left { OnOk result (self.new.left ≤ self.old.left) }
+        ensures { OnOk result (IsFurther league.now self.old.best.score self.old.left self.new) }
     {
         let end = self.left.saturating_sub(moves);
         'stretches: for _stretch in 0..moves / STRETCH + 1000 {

@@ -7,8 +7,7 @@ ghost use Rattle.league.specs.Structure.{IsRoundRobin};
 ghost use Rattle.rule_core.specs.Table.{table_counts};
 ghost use Rattle.moves.specs.Round.{round_counts};
 ghost use Rattle.descent.specs.League.{AreRulesOf};
-ghost use Rattle.descent.specs.Score.{IsNoWorse};
-ghost use Rattle.walk.specs.Standing.{HasKeptHere, IsStandingOn, IsWalkerIn};
+ghost use Rattle.walk.specs.Standing.{HasKeptHere, IsElsewhere, IsFurther, IsStandingOn, IsWalkerIn};
 ghost use Rattle.walk.specs.Walked.{league_score};
 
 use crate::afresh::random_start;
@@ -132,10 +131,8 @@ impl Walker {
     ) -> Result<(), AllocError>
         requires walker { IsWalkerIn league.now self.old }
         requires seen { HasKeptHere league.now self.old }
-        ensures walker { OnOk result (IsWalkerIn league.now self.new) }
-        ensures no_worse { OnOk result (IsNoWorse self.new.best.score self.old.best.score) }
+        ensures further { OnOk result (IsFurther league.now self.old.best.score self.old.left self.new) }
         ensures seen { OnOk result (HasKeptHere league.now self.new) }
-        ensures left { OnOk result (self.new.left ≤ self.old.left) }
     {
         'searches: for search in 0..self.left / PATIENCE + 2 {
             self.search_once(alloc, league, search, watch)?;
@@ -180,14 +177,12 @@ impl Walker {
         watch: &W,
     ) -> Result<(), AllocError>
         requires walker { IsWalkerIn league.now self.old }
-        ensures walker { OnOk result (IsWalkerIn league.now self.new) }
-        ensures no_worse { OnOk result (IsNoWorse self.new.best.score self.old.best.score) }
+        ensures further { OnOk result (IsFurther league.now self.old.best.score self.old.left self.new) }
         ensures seen { OnOk result (HasKeptHere league.now self.new) }
-        ensures left { OnOk result (self.new.left ≤ self.old.left) }
     {
         self.place(alloc, league, search)?;
         self.cool(alloc, league, search, watch)?;
-        let _sum = self.meet_hard(alloc, league, Patience::of(search), watch)?;
+        self.meet_hard(alloc, league, Patience::of(search), watch)?;
         let few_breaks = self.walk_circles(alloc, league, watch)?;
         self.lower_soft(alloc, league, few_breaks, watch)?;
         Ok(())
@@ -200,9 +195,7 @@ impl Walker {
     /// Only where memory runs out.
     fn place(&mut self, alloc: Global, league: &League, search: u64) -> Result<(), AllocError>
         requires walker { IsWalkerIn league.now self.old }
-        ensures walker { OnOk result (IsWalkerIn league.now self.new) }
-        ensures best { OnOk result (self.new.best ≡ self.old.best) }
-        ensures left { OnOk result (self.new.left ≡ self.old.left) }
+        ensures { OnOk result (IsElsewhere league.now self.old.best self.old.left self.new) }
     {
         if search == 0 {
             return Ok(());
@@ -218,9 +211,7 @@ impl Walker {
     /// Only where memory runs out.
     fn restart(&mut self, alloc: Global, league: &League) -> Result<(), AllocError>
         requires walker { IsWalkerIn league.now self.old }
-        ensures walker { OnOk result (IsWalkerIn league.now self.new) }
-        ensures best { OnOk result (self.new.best ≡ self.old.best) }
-        ensures left { OnOk result (self.new.left ≡ self.old.left) }
+        ensures { OnOk result (IsElsewhere league.now self.old.best self.old.left self.new) }
     {
         let Some(start) = random_start(alloc, league, &mut self.standing.random)? else {
             return Ok(());
@@ -241,9 +232,7 @@ impl Walker {
         requires walker { IsWalkerIn league.now self.old }
         requires fit { All (IsGame league.now.n) start.now }
         requires round_robin { IsRoundRobin league.now.n league.now.phased (counts_of start.now) }
-        ensures walker { OnOk result (IsWalkerIn league.now self.new) }
-        ensures best { OnOk result (self.new.best ≡ self.old.best) }
-        ensures left { OnOk result (self.new.left ≡ self.old.left) }
+        ensures { OnOk result (IsElsewhere league.now self.old.best self.old.left self.new) }
     {
         self.standing.board = Board::new(alloc, league.n(), league.phased(), start)?;
         Ok(())
@@ -263,9 +252,7 @@ impl Walker {
         watch: &W,
     ) -> Result<u128, AllocError>
         requires walker { IsWalkerIn league.now self.old }
-        ensures walker { OnOk result (IsWalkerIn league.now self.new) }
-        ensures no_worse { OnOk result (IsNoWorse self.new.best.score self.old.best.score) }
-        ensures left { OnOk result (self.new.left ≤ self.old.left) }
+        ensures { OnOk result (IsFurther league.now self.old.best.score self.old.left self.new) }
     {
         let mut hard = WeighedParts::new(alloc, league, Weighing::Hard)?;
         self.meet_parts(alloc, league, &mut hard, patience, watch)
@@ -284,9 +271,7 @@ impl Walker {
         watch: &W,
     ) -> Result<u128, AllocError>
         requires walker { IsWalkerIn league.now self.old }
-        ensures walker { OnOk result (IsWalkerIn league.now self.new) }
-        ensures no_worse { OnOk result (IsNoWorse self.new.best.score self.old.best.score) }
-        ensures left { OnOk result (self.new.left ≤ self.old.left) }
+        ensures { OnOk result (IsFurther league.now self.old.best.score self.old.left self.new) }
     {
         let mut patience = patience;
         'stretches: for _stretch in 0..self.left / STRETCH + 1 {
@@ -314,9 +299,7 @@ impl Walker {
     ) -> Result<u128, AllocError>
         requires walker { IsWalkerIn league.now self.old }
         requires limit { stage.limit ≤ self.old.left }
-        ensures walker { OnOk result (IsWalkerIn league.now self.new) }
-        ensures no_worse { OnOk result (IsNoWorse self.new.best.score self.old.best.score) }
-        ensures left { OnOk result (self.new.left ≤ self.old.left) }
+        ensures { OnOk result (IsFurther league.now self.old.best.score self.old.left self.new) }
     {
         self.move_on(parts, stage, watch);
         let said = parts.score();
@@ -351,9 +334,7 @@ impl Walker {
         said: Score,
     ) -> Result<(), AllocError>
         requires walker { IsWalkerIn league.now self.old }
-        ensures walker { OnOk result (IsWalkerIn league.now self.new) }
-        ensures no_worse { OnOk result (IsNoWorse self.new.best.score self.old.best.score) }
-        ensures left { OnOk result (self.new.left ≡ self.old.left) }
+        ensures { OnOk result (IsFurther league.now self.old.best.score self.old.left self.new) }
     {
         if !said.is_lower(self.best.score()) {
             return Ok(());
@@ -377,10 +358,8 @@ impl Walker {
         watch: &W,
     ) -> Result<(), AllocError>
         requires walker { IsWalkerIn league.now self.old }
-        ensures walker { OnOk result (IsWalkerIn league.now self.new) }
-        ensures no_worse { OnOk result (IsNoWorse self.new.best.score self.old.best.score) }
+        ensures further { OnOk result (IsFurther league.now self.old.best.score self.old.left self.new) }
         ensures seen { OnOk result (HasKeptHere league.now self.new) }
-        ensures left { OnOk result (self.new.left ≤ self.old.left) }
     {
         let heat = soft_heat(alloc, league, few_breaks)?;
         copy_games(&self.standing.board, &mut self.games);
@@ -406,10 +385,8 @@ impl Walker {
         requires rules { AreRulesOf ⟦<AnyRule as Entries>⟧ 1 league.now tally.old.weights }
         requires teams { tally.old.table.n ≡ league.now.n }
         requires counts { table_counts tally.old.table ≡ round_counts self.old.standing.board }
-        ensures walker { OnOk result (IsWalkerIn league.now self.new) }
-        ensures no_worse { OnOk result (IsNoWorse self.new.best.score self.old.best.score) }
+        ensures further { OnOk result (IsFurther league.now self.old.best.score self.old.left self.new) }
         ensures seen { OnOk result (HasKeptHere league.now self.new) }
-        ensures left { OnOk result (self.new.left ≤ self.old.left) }
     {
         self.best.keep(&self.standing.board, Score::of(tally));
         if tally.infeasibility() > 0 {
@@ -438,10 +415,8 @@ impl Walker {
         requires teams { tally.old.table.n ≡ league.now.n }
         requires counts { table_counts tally.old.table ≡ round_counts self.old.standing.board }
         requires seen { HasKeptHere league.now self.old }
-        ensures walker { OnOk result (IsWalkerIn league.now self.new) }
-        ensures no_worse { OnOk result (IsNoWorse self.new.best.score self.old.best.score) }
+        ensures further { OnOk result (IsFurther league.now self.old.best.score self.old.left self.new) }
         ensures seen { OnOk result (HasKeptHere league.now self.new) }
-        ensures left { OnOk result (self.new.left ≤ self.old.left) }
     {
         let mut parts = WeighedParts::on(alloc, league, Weighing::STRICT, &self.standing.board)?;
         self.soften_parts(league, heat, tally, &mut parts, watch);
@@ -462,10 +437,8 @@ impl Walker {
         requires teams { tally.old.table.n ≡ league.now.n }
         requires counts { table_counts tally.old.table ≡ round_counts self.old.standing.board }
         requires seen { HasKeptHere league.now self.old }
-        ensures walker { IsWalkerIn league.now self.new }
-        ensures no_worse { IsNoWorse self.new.best.score self.old.best.score }
+        ensures further { IsFurther league.now self.old.best.score self.old.left self.new }
         ensures seen { HasKeptHere league.now self.new }
-        ensures left { self.new.left ≤ self.old.left }
     {
         let cooling = Cooling::new(heat, self.left);
         'stretches: for _stretch in 0..self.left / STRETCH + 1 {

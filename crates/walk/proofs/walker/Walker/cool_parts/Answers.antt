@@ -1,24 +1,15 @@
-use Rattle.std.proofs.Common.{arith}
-use Rattle.descent.proofs.ScoreLemmas.{IsNoWorse-itself}
-use Rattle.walk.proofs.WalkLemmas.{IsNoWorse-both}
+use Rattle.walk.proofs.WalkLemmas.{IsFurther-both, IsFurther-same}
 use Rattle.walk.proofs.walker.Walker.cool_parts.Goals as goal
 
 pub stretches-init : goal.stretches-init
-stretches-init g c = record {
-  walker = c.requires.walker;
-  no_worse = IsNoWorse-itself c.args.self.now.best.score;
-  left = omega arith;
-}
+stretches-init g c = IsFurther-same c.args.league.now c.args.self.now c.requires.walker
 
 pub stretches-preserved : goal.stretches-preserved
-stretches-preserved g c = record {
-  walker = c.in_ok-sum.ensures.walker;
-  no_worse = IsNoWorse-both c.stretch.new.self.best.score c.stretches.self.best.score c.args.self.now.best.score
-      c.in_ok-sum.ensures.no_worse c.stretches.invariant.no_worse;
-  left = omega (arith, c.in_ok-sum.ensures.left, c.stretches.invariant.left);
-}
+stretches-preserved g c =
+    IsFurther-both c.args.league.now c.args.self.now.best.score c.args.self.now.left c.stretches.self c.stretch.new.self
+    c.stretches.invariant c.in_ok-sum.ensures
 
-pub returns-then-sum-eq0-clause-no_worse : goal.returns-then-sum-eq0-clause-no_worse
-returns-then-sum-eq0-clause-no_worse g c =
-    IsNoWorse-both c.stretch.new.self.best.score c.stretches.self.best.score c.args.self.now.best.score
-    c.in_ok-sum.ensures.no_worse c.stretches.invariant.no_worse
+pub returns-then-sum-eq0 : goal.returns-then-sum-eq0
+returns-then-sum-eq0 g c =
+    IsFurther-both c.args.league.now c.args.self.now.best.score c.args.self.now.left c.stretches.self c.stretch.new.self
+    c.stretches.invariant c.in_ok-sum.ensures

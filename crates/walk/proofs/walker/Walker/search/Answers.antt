@@ -1,25 +1,20 @@
-use Rattle.std.proofs.Common.{arith}
-use Rattle.descent.proofs.ScoreLemmas.{IsNoWorse-itself}
-use Rattle.walk.proofs.WalkLemmas.{IsNoWorse-both}
+use Rattle.walk.proofs.WalkLemmas.{IsFurther-both, IsFurther-same}
 use Rattle.walk.proofs.walker.Walker.search.Goals as goal
 
 pub searches-init : goal.searches-init
 searches-init g c = record {
-  walker = c.requires.walker;
-  no_worse = IsNoWorse-itself c.args.self.now.best.score;
+  further = IsFurther-same c.args.league.now c.args.self.now c.requires.walker;
   seen = c.requires.seen;
-  left = omega arith;
 }
 
 pub searches-preserved : goal.searches-preserved
 searches-preserved g c = record {
-  walker = c.in_ok-search_once.ensures.walker;
-  no_worse = IsNoWorse-both c.search_once.new.self.best.score c.searches.self.best.score c.args.self.now.best.score
-      c.in_ok-search_once.ensures.no_worse c.searches.invariant.no_worse;
+  further = IsFurther-both c.args.league.now c.args.self.now.best.score c.args.self.now.left c.searches.self
+      c.search_once.new.self c.searches.invariant.further c.in_ok-search_once.ensures.further;
   seen = c.in_ok-search_once.ensures.seen;
-  left = omega (
-    arith,
-    c.in_ok-search_once.ensures.left,
-    c.searches.invariant.left,
-  );
 }
+
+pub returns-then-is_over-clause-further : goal.returns-then-is_over-clause-further
+returns-then-is_over-clause-further g c =
+    IsFurther-both c.args.league.now c.args.self.now.best.score c.args.self.now.left c.searches.self
+    c.search_once.new.self c.searches.invariant.further c.in_ok-search_once.ensures.further
