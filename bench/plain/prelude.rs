@@ -119,6 +119,12 @@ impl<T: Clone> Vec<T> {
     }
 }
 
+impl<T: PartialEq> Vec<T> {
+    pub fn dedup(&mut self) {
+        self.0.dedup();
+    }
+}
+
 impl<T: Ord> Vec<T> {
     pub fn sort(&mut self) -> Result<(), AllocError> {
         self.0.sort();
