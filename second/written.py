@@ -301,7 +301,7 @@ def faults_of(t, words, own, where, path):
     """Each call of a place fails once, or all from there on."""
     (plain, is_kept), (kind, way) = own, where
     shown_words = " ".join(os.path.basename(it) for it in words)
-    statuses, calls, k = collections.Counter(), None, 0
+    statuses, calls, k, unseen = collections.Counter(), None, 0, 0
     while calls is None or k <= calls:
         only_old(path)
         fault = {} if k == 0 else {way: [k * (it == kind) for it in range(6)]}
@@ -312,7 +312,9 @@ def faults_of(t, words, own, where, path):
         is_whole = (ran.status, ran.out) == (plain.status, b"" if is_kept else plain.out)
         is_own = is_whole and held == (plain.out if is_kept else OLD)
         is_none = is_refused(kind, ran, plain, is_kept) and (held == OLD or is_best(words, held))
-        t.must(is_own or is_none, shown_words, way, "place", kind, "call", k, ran, held[:60])
+        # Two calls a text may fail unseen: the look at FILE and the change of permissions. A write, a sync and a renaming may not.
+        unseen += is_own and k > 0 and (kind, way) == (4, "at") and words[0] != "solve"
+        t.must((is_own or is_none) and unseen <= 2, shown_words, way, "place", kind, "call", k, ran, held[:60])
         beside = os.listdir(os.path.dirname(path))
         t.must(len(beside) == 1 or kind == 5, shown_words, way, "place", kind, "call", k, "leaves", beside, ran)
         statuses[ran.status] += 1
