@@ -2,7 +2,8 @@
 # bench/peers.sh PROGRAM [SECONDS [PART ..]]: robin beside the other solvers that are installed (clasp, minisat+, sat4j, z3,
 # toulbar2, cbc and glpsol), each on the rows that `rows` writes, in one run. The parts are refute, find, objective and
 # leagues; where none is said, all. Each run may take so many seconds of processor time (60). A line for each run: what it
-# answered, its user seconds, and the machine's load. Needs python3; SOLVERS names the ones to be asked.
+# answered, its user seconds, and the machine's load. Needs python3; SOLVERS names the ones to be asked,
+# CASES, TEAMS and LEAGUES the leagues.
 here=$(cd "$(dirname "$0")" && pwd)
 program=$(realpath "$1")
 seconds=${2:-60}
@@ -56,8 +57,8 @@ ask() {
     glpsol) limited "$limit" stdbuf -oL glpsol --lp rows.lp -o answer ;;
     esac
     verdict=spent
-    [ "$status" != 152 ] && [ "$status" != 137 ] && awk -v user="$user" -v limit="$limit" \
-        'BEGIN { exit !(2 * user < limit) }' && verdict="gave up, status $status"
+    [ "$status" != 152 ] && awk -v user="$user" -v limit="$limit" 'BEGIN { exit !(2 * user < limit) }' &&
+        verdict="gave up, status $status"
     if grep -qE '^(s UNSATISFIABLE|unsat|No solution)|PROBLEM HAS NO|proven infeasible|Problem is infeasible' out; then
         verdict=none
     elif grep -qE '^(s OPTIMUM|sat$|Optimum:)|INTEGER OPTIMAL|Result - Optimal' out; then
@@ -66,7 +67,7 @@ ask() {
         verdict=found
     fi
     least=$(sed -n -e 's/^o \(-\?[0-9]*\).*/\1/p' -e 's/^New solution: \([0-9]*\).*/\1/p' \
-        -e 's/^Objective value: *\([0-9.]*\).*/\1/p' -e 's/^   \([0-9]*\)$/\1/p' \
+        -e 's/^Objective value: *\([0-9.]*\).*/\1/p' -e 's/^   \([0-9]*\)$/\1/p' -e 's/^c Optimal solution: \([0-9]*\)$/\1/p' \
         -e 's/.*>>>>> *\([0-9.e+]*\) .*/\1/p' out | tail -n 1)
     [ -n "$least" ] && least=$(printf '%.0f' "$least")
 }
