@@ -2,8 +2,8 @@
 # bench/peers.sh PROGRAM [SECONDS [PART ..]]: robin beside the other solvers that are installed (clasp, minisat+, sat4j, z3,
 # toulbar2, cbc and glpsol), each on the rows that `rows` writes, in one run. The parts are refute, find, objective and
 # leagues; where none is said, all. Each run may take so many seconds of processor time (60). A line for each run: what it
-# answered, its user seconds, and the machine's load. Needs python3; SOLVERS names the ones to be asked,
-# CASES, TEAMS and LEAGUES the leagues.
+# answered, its user seconds, and the machine's load. Needs python3. SOLVERS names the solvers to be asked. CASES names the
+# leagues of refute, TEAMS those of find and objective, LEAGUES those of leagues. toulbar2 may take all memory.
 here=$(cd "$(dirname "$0")" && pwd)
 program=$(realpath "$1")
 seconds=${2:-60}
